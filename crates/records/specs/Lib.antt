@@ -1,0 +1,3 @@
+-- The root of the crate's definitions.
+pub mod Bytes
+pub mod Plan
