@@ -3,6 +3,7 @@
 --     length-plan       a plan of n nodes has n records
 --     colour-red        a number other than 0 stands for red
 --     record-stores     eight stores in a row put a record
+--     Puts kind n tree plan₀ plan v     the loop's invariant: v of n records stand in plan
 --     plan-more         one record more
 --     plan-at           what stands at offset k of v's record
 --     plan-read         what is written is read back: a parent link, and
@@ -59,6 +60,12 @@ record-stores s at a b c d e f g h =
     let e6 : at + 6 ≡ suc (suc (suc (suc (suc (suc at))))) = omega arith in
     let e7 : at + 7 ≡ suc (suc (suc (suc (suc (suc (suc at)))))) = omega arith in
     rw (e1, e2, e3, e4, e5, e6, e7) refl
+
+pub record Puts (kind n : ℕ) (tree : Trees) (plan₀ plan : List ℕ) (v : ℕ) : Type 0 where
+  pub within : v ≤ n
+  pub same : length plan ≡ length plan₀
+  -- the first v records, and the rest as it was
+  pub holds : plan ≡ planBytes kind v tree ++ drop (8 * v) plan₀
 
 module _ (kind : ℕ) (tree : Trees) where
   -- The bytes of v's record.
