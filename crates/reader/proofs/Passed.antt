@@ -1,31 +1,30 @@
 -- What a record that is not refused says.
 --     not-refused       a refusal is no table
+--     same-shape        two tables that are equal have one shape
 --     passed            what a refusal's test was passed by
 --     NodePassed        a node record's promise: its number, its role, one node more
 --     LinkPassed        a link record's promise: its ends are two nodes, one link more
+--     another, byRole   a node record that neither 3 nor 4 refuses, judged by its role
 --     node-passed, link-passed     both hold
 --     record-passed     a record that is not refused is one of the two
 --     next-place        and the next record comes next
---     NodeGood          a node record that neither 3 nor 4 refuses is judged by its role:
---     node-plain, node-second, node-source     no source, a second source, the source
 -- Assumes nothing.
-use mathlib.Core.Path.{_≡_, refl, sym, ap, _∙_}
+use mathlib.Core.Path.{_≡_, refl, sym, ap}
 use mathlib.Core.Bool.{Bool, true, false, not, cond}
 use mathlib.Core.List.{List}
 use mathlib.Core.Logic.{_≢_, ⊎-elim, _⊎_, inl, inr}
 use Prim.Native.Nat.{ℕ, _+_, _≤_, _<_}
 use native.Mathlib.Omega.{arith}
-use borrow.Author.Tests.{le-ltb, lt-leb, eq-eqb, ne-eqb}
 use borrow.Author.Tests.{ltb-false, leb-false, eqb-true, eqb-false, not-false}
 use lib.Dec.{ltb, eqb}
 use Rattle.network.proofs.Tests.{test}
-use Rattle.records.specs.Bytes.{kindOf, roleOf, numberOf, oneEnd, otherEnd, badNode}
+use Rattle.records.specs.Bytes.{kindOf, roleOf, oneEnd, otherEnd, badNode}
 use Rattle.reader.specs.declared.Answer.{Answer}
 use Rattle.reader.specs.declared.Shape.{Shape}
 use Rattle.reader.specs.declared.Reading.{Reading}
 use Rattle.reader.specs.declared.Reading.the-variants.{Table, Refused}
 use Rattle.reader.specs.Answer.{answer}
-use Rattle.reader.specs.Table.{refused, refuseIf, nobody, placeOf, nodeOf, linkOf, recordOf}
+use Rattle.reader.specs.Table.{refuseIf, nobody, placeOf, nodeOf, linkOf, recordOf}
 
 pub not-refused : (a : Answer) (g : Shape) → Refused a ≡ Table g → ⊥
 not-refused a g e = let z : _≡_ {A = ℕ} 0 1 = cc in omega arith
@@ -71,60 +70,15 @@ module _ (s : List ℕ) (h g : Shape) where
     pub source : g .source ≡ h .source
 
 -- One node more, with a source.
-abbrev another : Shape → ℕ → Shape
+abbrev pub another : Shape → ℕ → Shape
 another h source = record { nodes = h .nodes + 1; links = h .links; source = source }
 
 module _ (s : List ℕ) (h : Shape) where
   -- A node record, judged by its role.
-  abbrev byRole : Reading
+  abbrev pub byRole : Reading
   byRole =
       cond (eqb (roleOf s (placeOf h)) 0) (Table (another h (h .source)))
       (refuseIf (not (eqb (h .source) nobody)) 5 (placeOf h) 0 (Table (another h (placeOf h))))
-
-  -- The code's tests for 3 and 4 are passed.
-  pub record NodeGood : Type 0 where
-    pub none : h .links ≤ 0
-    pub clean : 8 ≤ badNode s (placeOf h)
-    pub number : numberOf s (placeOf h) ≡ placeOf h
-    pub room : placeOf h < 256
-
-  -- By what the code's callees returned.
-  pub node-judged : {bad number : ℕ} → h .links ≤ 0 → bad ≡ badNode s (placeOf h) → 8 ≤ bad
-      → number ≡ numberOf s (placeOf h) → number ≡ placeOf h → placeOf h < 256 → NodeGood
-  node-judged none is clean held right room = record {
-    none = none;
-    clean = rw is at clean;
-    number = sym held ∙ right;
-    room = room;
-  }
-
-  node-good : NodeGood → nodeOf s h ≡ byRole
-  unfolding nodeOf refuseIf
-  node-good k =
-      simp (
-        le-ltb _ _ (k .none),
-        le-ltb _ _ (k .clean),
-        eq-eqb _ _ (k .number),
-        lt-leb _ _ (k .room),
-      )
-
-  pub node-plain : NodeGood → roleOf s (placeOf h) ≡ 0
-      → nodeOf s h ≡ Table (another h (h .source))
-  node-plain k role = node-good k ∙ rw (eq-eqb (roleOf s (placeOf h)) 0 role)
-
-  pub node-second : NodeGood → roleOf s (placeOf h) ≢ 0 → h .source ≢ nobody
-      → nodeOf s h ≡ refused 5 (placeOf h) 0
-  unfolding refuseIf
-  node-second k role other =
-      node-good k
-      ∙ rw (ne-eqb (roleOf s (placeOf h)) 0 role, ne-eqb (h .source) nobody other)
-
-  pub node-source : NodeGood → roleOf s (placeOf h) ≢ 0 → h .source ≡ nobody
-      → nodeOf s h ≡ Table (another h (placeOf h))
-  unfolding refuseIf
-  node-source k role none =
-      node-good k
-      ∙ rw (ne-eqb (roleOf s (placeOf h)) 0 role, eq-eqb (h .source) nobody none)
 
   -- The role of a node record that neither 3 nor 4 refuses.
   role-passed : (g : Shape) → roleOf s (placeOf h) ≤ 1 → byRole ≡ Table g

@@ -5,7 +5,7 @@ use mathlib.Core.Path.{sym, _∙_}
 use borrow.Author.Needs.{needs}
 use Rattle.network.proofs.Tests.{tests}
 use Rattle.reader.specs.Table.{refuseIf, nodeOf}
-use Rattle.reader.proofs.Passed.{node-judged, node-plain, node-second, node-source}
+use Rattle.reader.proofs.Judged.{node-judged, node-plain, node-second, node-source}
 use Rattle.reader.proofs.node.Statement.{statement}
 use Rattle.reader.proofs.node.Tie as tie
 
