@@ -1,15 +1,15 @@
 -- Trees and their chains.
 --     Colour                    blue or red
---     colour_of k                the colour that a number stands for: 0 blue, else red
+--     colour_of k               the colour that a number stands for: 0 blue, else red
 --     Trees                     tree colour v is v's parent link in that colour
---     trees_of b r               the trees whose blue and red parent links are two lists
+--     trees_of b r              the trees whose blue and red parent links are two lists
 --     Chain G tree colour v a   v's chain reaches the source, and a are its codes
 --     a names c                 the chain with codes a has the part with code c
 --     evens a                   what stands at a's even places: a chain's nodes
 --     Reaches G tree colour v   v's chain reaches the source
 --     Pair G tree               every node's blue chain and red chain reach the source
 --     walk G tree colour k v    v's chain as far as k hops go, computed
---     chain_of G tree colour v   v's chain, computed: no chain needs more hops than nodes
+--     chain_of G tree colour v  v's chain, computed: no chain needs more hops than nodes
 -- Assumes nothing.
 use Rattle.std.specs.Prelude.{◌≡◌, ◌≢◌, cond, List, [], ◌∷◌, ℕ, zero, suc, ◌<◌, eqb, get_or}
 use Rattle.network.specs.Set.{◌∈◌}
