@@ -1,3 +1,5 @@
+#![tactic(auto)]
+
 // What the bytes of tables and plans hold, and the list of link ends that a table is read into. This
 // is the one place that knows byte offsets. specs/ says what each accessor answers.
 ghost use Rattle.std.specs.Prelude.{◌≡◌, ◌++◌, ◌+◌, ◌*◌, ◌<◌, ◌≤◌, length, drop, get_or};
@@ -22,6 +24,7 @@ pub fn wide(x: u16) -> usize
 }
 
 // The two-byte number at byte `at`, low byte first.
+#[tactic(auto, unfolding(crate::specs::Bytes::two_of))]
 pub fn two(s: &[u8], at: usize) -> usize
     requires { at + 2 ≤ length s.now }
     ensures { (result ≡ two_of s.now at) × (result < 65536) }
@@ -72,6 +75,7 @@ pub fn other_end(s: &[u8], r: usize) -> usize
 }
 
 // The offset of the lower of the last two bytes of record r that is not 0, 8 if both are 0.
+#[tactic(auto, unfolding(crate::specs::Bytes::bad_tail))]
 fn bad_tail(s: &[u8], r: usize) -> usize
     requires { 8 * r + 8 ≤ length s.now }
     ensures { result ≡ bad_tail s.now r }
@@ -86,6 +90,7 @@ fn bad_tail(s: &[u8], r: usize) -> usize
 }
 
 // The offset of the lowest bad byte of node record r behind its kind, 8 if there is none.
+#[tactic(auto, unfolding(crate::specs::Bytes::bad_node))]
 pub fn bad_node(s: &[u8], r: usize) -> usize
     requires { 8 * r + 8 ≤ length s.now }
     ensures { result ≡ bad_node s.now r }
@@ -103,6 +108,7 @@ pub fn bad_node(s: &[u8], r: usize) -> usize
 }
 
 // The same of link record r.
+#[tactic(auto, unfolding(crate::specs::Bytes::bad_link))]
 pub fn bad_link(s: &[u8], r: usize) -> usize
     requires { 8 * r + 8 ≤ length s.now }
     ensures { result ≡ bad_link s.now r }
@@ -142,6 +148,7 @@ pub fn beyond(ends: &[u16], l: usize, v: usize) -> usize
 }
 
 // The parent link of a node in a plan: colour 0 is blue, any other red.
+#[tactic(auto, using(crate::proofs::Plan::colour_red), unfolding(crate::specs::Plan::entry_of))]
 pub fn entry(plan: &[u8], kind: u8, node: usize, colour: u64) -> u16
     requires { size_of kind * node + size_of kind ≤ length plan.now }
     ensures { result ≡ entry_of kind plan.now node (colour_of colour) }
@@ -153,6 +160,7 @@ pub fn entry(plan: &[u8], kind: u8, node: usize, colour: u64) -> u16
 }
 
 // The lowest of the offsets 0, 1 and 2 of a node's record that is wrong, 8 if none is.
+#[tactic(auto, unfolding(crate::specs::Plan::bad_plan))]
 pub fn bad_plan(plan: &[u8], kind: u8, node: usize) -> usize
     requires { size_of kind * node + size_of kind ≤ length plan.now }
     ensures { result ≡ bad_plan kind plan.now node }
@@ -171,6 +179,7 @@ pub fn bad_plan(plan: &[u8], kind: u8, node: usize) -> usize
 }
 
 // Writes a node's record into a plan; nothing else changes.
+#[tactic(auto, using(crate::proofs::Plan::record_stores), unfolding(crate::specs::Plan::record_of))]
 pub fn put_record(plan: &mut [u8], kind: u8, node: u16, blue: u16, red: u16)
     requires { size_of kind * node + size_of kind ≤ length plan.old }
     ensures { plan.new ≡ sets plan.old (size_of kind * node) (record_of kind node blue red) }
