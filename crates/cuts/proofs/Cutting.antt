@@ -4,7 +4,7 @@
 --     found_node, found_none       what a number finds
 --     missed_is                    the lowest node that is not reached is the lowest that c cuts
 --                                  off
---     may_cut                       the losses that are tried
+--     may_cut                      the losses that are tried
 --     cut_at, cut_none             the lowest loss that cuts a node off, and that none does
 --     refused10, refused11, refused12, unrefused
 --                                  the refusal, by what a program has found

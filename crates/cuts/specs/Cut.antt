@@ -1,7 +1,7 @@
 -- Refusals 10 to 12 as answers.
---     missed_by G c       the lowest node that the loss c cuts off; the source is no loss
---     cut_by n x          the refusal n that a cut tells of, if it names a node
---     cut_answer o        the answer that gives a refusal: its number, place, other; or success
+--     missed_by G c      the lowest node that the loss c cuts off; the source is no loss
+--     cut_by n x         the refusal n that a cut tells of, if it names a node
+--     cut_answer o       the answer that gives a refusal: its number, place, other; or success
 -- Assumes nothing.
 use Rattle.std.specs.Prelude.{not, ℕ, eqb}
 use Rattle.network.specs.Search.{Found, got, nothing, when, on_found}

@@ -4,7 +4,7 @@
 --     passed            what a refusal's test was passed by
 --     NodePassed        a node record's promise: its number, its role, one node more
 --     LinkPassed        a link record's promise: its ends are two nodes, one link more
---     another, by_role   a node record that neither 3 nor 4 refuses, judged by its role
+--     another, by_role  a node record that neither 3 nor 4 refuses, judged by its role
 --     node_passed, link_passed     both hold
 --     record_passed     a record that is not refused is one of the two
 --     next_place        and the next record comes next

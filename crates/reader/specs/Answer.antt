@@ -2,9 +2,9 @@
 --     answer n p o     the answer with these three
 --     fine             success
 --     told o           the refusal that was found, or else success
---     and_then a b      a refusal stays, else the next answer decides
---     answer_of r       document 01's number and values for each case of a reading
---     on_table r k      a refused table's answer, or what k answers for a table of that shape
+--     and_then a b     a refusal stays, else the next answer decides
+--     answer_of r      document 01's number and values for each case of a reading
+--     on_table r k     a refused table's answer, or what k answers for a table of that shape
 -- Assumes nothing.
 use Rattle.std.specs.Prelude.{cond, ℕ, eqb}
 use Rattle.network.specs.Search.{Found, got, nothing}

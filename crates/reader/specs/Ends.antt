@@ -1,14 +1,14 @@
 -- A table that is read, as a graph.
---     ends_up_to s n m       the ends of the first m links of a table of n nodes, two numbers a link
---     ends_of s h           the ends of all its links
+--     ends_up_to s n m     the ends of the first m links of a table of n nodes, two numbers a link
+--     ends_of s h          the ends of all its links
 --     fits s h old         a shape as a table has it, with its records in s and its ends in old
---     filled_of s h old     what a buffer holds after its start was filled with the ends
---     graph_in h ends       the graph of a shape and a list of ends
---     table_graph s h       the graph of a table that was read
+--     filled_of s h old    what a buffer holds after its start was filled with the ends
+--     graph_in h ends      the graph of a shape and a list of ends
+--     table_graph s h      the graph of a table that was read
 --     Filled h ends        what the cores ask of a list of ends: room, and a well-formed graph
 --     Told s h             what a table says when it is read: its length, and each record's role
 -- Assumes nothing.
-use Rattle.std.specs.Prelude.{◌≡◌, ◌≢◌, Bool, true, ◌&&◌, cond, List, [], ◌∷◌, ◌++◌, ℕ, zero, suc, ◌+◌, ◌*◌, ◌≤◌, ◌<◌, eqb, leb, length, drop}
+use Rattle.std.specs.Prelude.{◌≡◌, ◌≢◌, Bool, ◌&&◌, cond, List, [], ◌∷◌, ◌++◌, ℕ, zero, suc, ◌+◌, ◌*◌, ◌≤◌, ◌<◌, leb, length, drop}
 use Rattle.network.specs.Graph.{Graph, WellFormed, graph_of}
 use Rattle.records.specs.Bytes.{role_of, one_end, other_end}
 use Rattle.reader.specs.declared.Shape.{Shape}

@@ -1,16 +1,16 @@
 -- What a table says, or by which number it is refused (2 to 8). Records are read in order, and the
 -- first with a fault decides.
 --     nobody           the source of a shape of which no source was read yet
---     place_of h        how many records a shape has: the next record's number
+--     place_of h       how many records a shape has: the next record's number
 --     refused n p o    the reading that refuses with these three
---     refuse_if b ..    refused where the test holds, else what follows
---     node_of s h       a node record: 3, 4, 5, or one node more
---     link_of s h       a link record: 3, 8, 6, 7, or one link more
---     record_of s h     the next record, by its kind
---     end_of h          after all records: no source is 5
+--     refuse_if b ..   refused where the test holds, else what follows
+--     node_of s h      a node record: 3, 4, 5, or one node more
+--     link_of s h      a link record: 3, 8, 6, 7, or one link more
+--     record_of s h    the next record, by its kind
+--     end_of h         after all records: no source is 5
 --     onward r k       a refusal stays, else k goes on
---     go_on s n h       the next n records, judged from a shape, and the end
---     read_of s         the reading of a table's bytes
+--     go_on s n h      the next n records, judged from a shape, and the end
+--     read_of s        the reading of a table's bytes
 -- Assumes nothing.
 use Rattle.std.specs.Prelude.{Bool, true, false, not, cond, List, ℕ, zero, suc, ◌+◌, ◌/◌, ◌%◌, ltb, leb, eqb, length}
 use Rattle.records.specs.Bytes.{kind_of, role_of, number_of, one_end, other_end, bad_node, bad_link}

@@ -1,3 +1,5 @@
+#![tactic(auto)]
+
 // The table reader: node records, then link records. Every input has an answer: a table's shape, or
 // the refusal (2 to 8) of document 01.
 ghost use Rattle.std.specs.Prelude.{◌≡◌, ◌+◌, ◌*◌, ◌≤◌, length};
@@ -6,7 +8,7 @@ ghost use Rattle.reader.specs.Table.{place_of, refused, node_of, link_of, record
 ghost use Rattle.reader.specs.Ends.{filled_of};
 
 // A refusal's number, place and other; success is 0, 0, 0.
-#[derive(Drop)]
+#[derive(Clone, Copy)]
 pub struct Answer {
     pub number: u16,
     pub place: u64,
@@ -14,14 +16,14 @@ pub struct Answer {
 }
 
 // What a table has. A shape of which no source was read yet has NOBODY as its source.
-#[derive(Drop)]
+#[derive(Clone, Copy)]
 pub struct Shape {
     pub nodes: usize,
     pub links: usize,
     pub source: usize,
 }
 
-#[derive(Drop)]
+#[derive(Clone, Copy)]
 pub enum Reading {
     Table(Shape),
     Refused(Answer),
@@ -54,6 +56,7 @@ fn stop(number: u16, place: usize, other: usize) -> Reading
 }
 
 // A node record: refused by 3, 4 or 5, or one node more.
+#[tactic(auto, unfolding(crate::specs::Table::node_of, crate::specs::Table::refuse_if))]
 fn node(table: &[u8], h: Shape) -> Reading
     requires { 8 * place_of h + 8 ≤ length table.now }
     ensures { result ≡ node_of table.now h }
@@ -91,6 +94,7 @@ fn node(table: &[u8], h: Shape) -> Reading
 }
 
 // A link record: refused by 3, 8, 6 or 7, or one link more.
+#[tactic(auto, unfolding(crate::specs::Table::link_of, crate::specs::Table::refuse_if))]
 fn link(table: &[u8], h: Shape) -> Reading
     requires { 8 * place_of h + 8 ≤ length table.now }
     ensures { result ≡ link_of table.now h }
@@ -122,6 +126,7 @@ fn link(table: &[u8], h: Shape) -> Reading
 }
 
 // The next record, by its kind.
+#[tactic(auto, unfolding(crate::specs::Table::record_of))]
 fn step(table: &[u8], h: Shape) -> Reading
     requires { 8 * place_of h + 8 ≤ length table.now }
     ensures { result ≡ record_of table.now h }
@@ -138,6 +143,7 @@ fn step(table: &[u8], h: Shape) -> Reading
 }
 
 // After all records: a table has a source.
+#[tactic(auto, unfolding(crate::specs::Table::end_of, crate::specs::Table::refuse_if))]
 fn end(h: Shape) -> Reading
     ensures { result ≡ end_of h }
 {
@@ -148,6 +154,7 @@ fn end(h: Shape) -> Reading
 }
 
 // Reads a table: its shape, or by which number it is refused.
+#[tactic(auto, unfolding(crate::specs::Table::read_of, crate::specs::Table::refuse_if))]
 pub fn read(table: &[u8]) -> Reading
     ensures { result ≡ read_of table.now }
 {
@@ -191,6 +198,7 @@ pub fn answered(r: Reading) -> Answer
 
 // Fills the start of `ends` with the ends of the table's links, two numbers a link; the rest stays.
 // Where the shape is no table's, or the records or the ends have no room, all of it stays.
+#[tactic(auto, unfolding(crate::specs::Ends::filled_of, crate::specs::Ends::fits))]
 pub fn fill(table: &[u8], h: Shape, ends: &mut [u16])
     ensures { ends.new ≡ filled_of table.now h ends.old }
 {
