@@ -1,7 +1,7 @@
 -- Laws of two-byte numbers and of lists that are stored into.
 --     two_fits        a two-byte number is below 65,536
 --     two_at          it reads its two bytes alone
---     get_or-sets       bytes outside of a run of stores stay
+--     get_or-sets     bytes outside of a run of stores stay
 -- Assumes nothing.
 use mathlib.Core.Path.{◌≡◌, refl, ◌∙◌}
 use mathlib.Core.Logic.{◌⊎◌, ⊎_elim, inl, inr}

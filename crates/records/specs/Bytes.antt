@@ -1,12 +1,12 @@
 -- What the bytes of a table hold. A record is 8 bytes; record r starts at byte 8 r.
---     two_of s i        the two-byte number at byte i, low byte first
---     kind_of s r       byte 0 of record r: 1 node, 2 link, 3 plan
---     role_of s r       byte 1 of a node record: 1 if source, else 0
---     number_of s r     the number of a node record
---     one_end s r       one end of a link record; other_end: the other
---     bad_node s r      the offset of the lowest byte of a node record behind its kind that is
+--     two_of s i       the two-byte number at byte i, low byte first
+--     kind_of s r      byte 0 of record r: 1 node, 2 link, 3 plan
+--     role_of s r      byte 1 of a node record: 1 if source, else 0
+--     number_of s r    the number of a node record
+--     one_end s r      one end of a link record; other_end: the other
+--     bad_node s r     the offset of the lowest byte of a node record behind its kind that is
 --                      neither a role nor a zero filler, 8 if there is none
---     bad_link s r      the same of a link record
+--     bad_link s r     the same of a link record
 -- Assumes nothing.
 use Rattle.std.specs.Prelude.{cond, List, ℕ, ◌+◌, ◌*◌, ltb, get_or}
 

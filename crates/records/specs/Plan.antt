@@ -1,10 +1,10 @@
 -- What the bytes of a plan hold: one record a node, in order.
---     size_of kind             how many bytes a record of a plan has, by its kind
---     entry_of kind s v c      the parent link of node v in colour c
---     bad_plan kind s v        the lowest of the offsets 0, 1 and 2 of v's record at which its kind,
+--     size_of kind            how many bytes a record of a plan has, by its kind
+--     entry_of kind s v c     the parent link of node v in colour c
+--     bad_plan kind s v       the lowest of the offsets 0, 1 and 2 of v's record at which its kind,
 --                             its byte 1 or its node number is wrong, 8 if none is
---     record_of kind v b r     the bytes of v's record with the parent links b and r
---     plan_bytes kind n tree   the bytes of a plan for n nodes
+--     record_of kind v b r    the bytes of v's record with the parent links b and r
+--     plan_bytes kind n tree  the bytes of a plan for n nodes
 -- Assumes nothing.
 use Rattle.std.specs.Prelude.{not, cond, List, [], ◌∷◌, ◌++◌, ℕ, zero, suc, ◌+◌, ◌*◌, ◌/◌, ◌%◌, eqb, get_or}
 use Rattle.network.specs.Chain.{Colour, blue, red, Trees}
