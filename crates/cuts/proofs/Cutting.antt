@@ -16,14 +16,13 @@ use mathlib.Core.Path.{◌≡◌, refl, sym, ap, ◌∙◌, fun_ext}
 use mathlib.Core.List.{List}
 use Prim.Native.Nat.{ℕ, ◌+◌, ◌<◌, ◌≤◌}
 use native.Mathlib.Omega.{arith}
-use native.Mathlib.Decide.{dec_lt}
 use lib.Dec.{eqb, ltb}
 use borrow.Author.Tests.{ltb-true, lt-ltb, le-ltb, eq-eqb, ne_eqb}
-use Rattle.network.specs.Search.{Found, got, nothing, when, on_found, is_got, lowest}
+use Rattle.network.specs.Search.{Found, got, nothing, when, on_found, is_got}
 use Rattle.network.specs.Graph.{Graph, WellFormed, link_code, no_loss}
 use Rattle.network.specs.Way.{has_way}
-use Rattle.network.proofs.Tests.{test, both}
-use Rattle.network.proofs.Search.{first_only, first_nothing, lowest_at, lowest_none}
+use Rattle.network.proofs.Tests.{test}
+use Rattle.network.proofs.Search.{first_only, first_nothing}
 use Rattle.choices.specs.Refuse.{Refusal, refusing, missed, cutter, refusal}
 use Rattle.choices.specs.Refuse.{refuse10, refuse11, refuse12}
 use Rattle.nodeset.specs.Set.{has, size, Lowest, found_at}

@@ -12,7 +12,7 @@
 -- Assumes nothing.
 use mathlib.Core.Bool.{Bool, true, false, not, ◌&&◌, ◌||◌, cond, xor, beq}
 use mathlib.Core.Bool.{or-true, true≢false}
-use mathlib.Core.Path.{◌≡◌, refl, sym, ap, subst₃, ◌∙◌}
+use mathlib.Core.Path.{◌≡◌, refl, sym, subst₃, ◌∙◌}
 use mathlib.Core.List.{List}
 use Prim.Native.Nat.{ℕ, ◌+◌, ◌-◌, ◌<◌, ◌≤◌}
 use native.Mathlib.Omega.{arith}
@@ -25,7 +25,7 @@ use Rattle.network.specs.Way.{Way, here, step, crosses, out_end, opens, has_way}
 use Rattle.network.proofs.Tests.{test, both}
 use Rattle.network.proofs.Graph.{joins_sym, joins_in}
 use Rattle.network.proofs.Way.{way_in, crossing, founded_more, closed_is, has_way_is}
-use Rattle.nodeset.specs.Set.{has, size}
+use Rattle.nodeset.specs.Set.{has}
 use Rattle.nodeset.proofs.Size.{size_put}
 use Rattle.cuts.specs.Reached.{gain, turn, Passed}
 

@@ -1,3 +1,5 @@
+#![tactic(auto)]
+
 // Refusals 10 to 12: what a loss cuts off from the source. Asks for a list of link ends that holds
 // those of a table (`Filled`), and reads it by the accessors of `records` alone.
 ghost use Rattle.std.specs.Prelude.{◌≡◌, not, ◌&&◌, ℕ, ◌+◌, ◌≤◌, ◌<◌, eqb, ltb};
@@ -12,7 +14,7 @@ use nodeset::NodeSet;
 use reader::{Answer, Shape};
 
 // The set after a pass, and whether it grew.
-#[derive(Drop)]
+#[derive(Clone, Copy)]
 struct Spread {
     set: NodeSet,
     grown: bool,
@@ -20,7 +22,7 @@ struct Spread {
 
 // The lowest of some losses that cuts a node off, by its place among them, and the lowest node that
 // it cuts off; 256 where none does.
-#[derive(Drop)]
+#[derive(Clone, Copy)]
 struct Cut {
     place: usize,
     node: usize,
@@ -181,7 +183,8 @@ pub fn refusal(p: u64, ends: &[u16], h: Shape) -> Answer
     if v < NO_NODE {
         return reader::refuse(10, v, 0);
     }
-    if p == 0 {
+    let asked = p == 0;
+    if asked {
         let cut = first_cut(ends, h, 0, h.nodes);
         if cut.node < NO_NODE {
             return reader::refuse(11, cut.place, cut.node);
