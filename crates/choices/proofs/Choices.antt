@@ -9,17 +9,12 @@
 --     draw_first          the choices finish exactly where no refusal is due
 --     finished_unrefused, stuck_refused     the same, for a program that draws first
 -- Assumes nothing.
-use mathlib.Core.Bool.{true, not}
-use mathlib.Core.Path.{◌≡◌, refl}
-use mathlib.Core.Logic.{◌↔◌}
-use Prim.Native.Nat.{ℕ, ◌<◌}
-use native.Mathlib.Omega.{arith}
-use Rattle.network.specs.Search.{Found, got, nothing, is_got}
+use Rattle.std.proofs.Common.{true, not, ◌≡◌, refl, ◌↔◌, ℕ, ◌<◌, arith, Option, Some, None, is_some}
 use Rattle.network.specs.Graph.{Graph, WellFormed}
 use Rattle.network.specs.Chain.{Trees}
 use Rattle.network.specs.Protected.{Passes}
 use Rattle.network.specs.Drawing.{Drawing}
-use Rattle.network.proofs.Search.{was_got, got_or_nothing}
+use Rattle.network.proofs.Search.{was_got}
 use Rattle.network.proofs.Drawing.{drawing_passes}
 use Rattle.network.proofs.Cut.{node_cut_fails, link_cut_fails, stranded_fails}
 use Rattle.choices.specs.Run.{is_in}
@@ -28,35 +23,35 @@ use Rattle.choices.specs.Refuse.{Refusal, Sturdy, Due, due10, due11, due12, refu
 use Rattle.choices.proofs.Refusals.{refusal_is, passed}
 use Rattle.choices.proofs.Orders.{in_order}
 use Rattle.choices.proofs.Rounds.{AllIn, Sound, draw_is, sound_alone}
-use Rattle.choices.proofs.Rounds.{draws_sound, draws_finish}
+use Rattle.choices.proofs.Rounds.{draws_sound, draws_finish, got_unless}
 
 module _ (p : ℕ) (G : Graph) (ok : WellFormed G) where
-  pub choices_sound : {s : State} → choices p G ≡ got s → Sound p G s × AllIn G s.order
+  pub choices_sound : {s : State} → choices p G ≡ Some s → Sound p G s × AllIn G s.order
   unfolding choices finish
   choices_sound h = draws_sound p G ok (draw_is p G _ (alone p G)) (sound_alone p G) h
 
-  pub choices_all : {s : State} → choices p G ≡ got s → (v : ℕ) → v < G.nodes
+  pub choices_all : {s : State} → choices p G ≡ Some s → (v : ℕ) → v < G.nodes
       → is_in s.order v ≡ true
   choices_all h = (choices_sound h).1
 
-  pub choices_drawing : {s : State} → choices p G ≡ got s → Drawing p G s.tree
+  pub choices_drawing : {s : State} → choices p G ≡ Some s → Drawing p G s.tree
   choices_drawing {s} h =
       let (d, all) = choices_sound h in
       record { order = s.order; drawn = d; all = λ v lt. in_order s.order v (all v lt) }
 
-  pub choices_passes : {s : State} → choices p G ≡ got s → Passes p G s.tree
+  pub choices_passes : {s : State} → choices p G ≡ Some s → Passes p G s.tree
   choices_passes {s} h = drawing_passes p G s.tree (choices_drawing h) ok
 
-  pub choices_finish : Sturdy p G → (s : State) × (choices p G ≡ got s)
+  pub choices_finish : Sturdy p G → (s : State) × (choices p G ≡ Some s)
   unfolding choices finish
   choices_finish st =
       was_got (choices p G)
       (draws_finish p G ok (draw_is p G _ (alone p G)) st (sound_alone p G) (omega arith))
 
-  pub refused_fails : {r : Refusal} → refusal p G ≡ got r → (tree : Trees) → ¬ (Passes p G tree)
+  pub refused_fails : {r : Refusal} → refusal p G ≡ Some r → (tree : Trees) → ¬ (Passes p G tree)
   refused_fails h tree = go (rw h at (refusal_is G ok p))
     where
-      go : {r : Refusal} → Due p G (got r) → ¬ (Passes p G tree)
+      go : {r : Refusal} → Due p G (Some r) → ¬ (Passes p G tree)
       go (due10 x) pass = stranded_fails tree ok x.cut.node x.cut.stuck pass
       go (due11 j k) pass =
           node_cut_fails tree k.node k.another k.cuts.cut (rw k.asked at pass)
@@ -67,34 +62,29 @@ module _ (p : ℕ) (G : Graph) (ok : WellFormed G) where
   -- the node that is cut off name the loss, in whatever trees. Where no refusal is given, the
   -- choices make a drawing, and a drawing is a protected pair. So a planner that refuses more than
   -- it must has refused trees that pass.
-  pub refused_exactly : ((r : Refusal) × (refusal p G ≡ got r))
+  pub refused_exactly : ((r : Refusal) × (refusal p G ≡ Some r))
       ↔ ((tree : Trees) → ¬ (Passes p G tree))
-  refused_exactly = (λ (r, h). refused_fails h, λ f. go f (refusal p G) refl)
-    where
-      go : ((tree : Trees) → ¬ (Passes p G tree)) → (o : Found Refusal) → refusal p G ≡ o
-          → (r : Refusal) × (refusal p G ≡ got r)
-      go f (got r) h = (r, h)
-      go f nothing h =
-          let (s, q) = choices_finish (passed G ok p h) in
-          absurd (f s.tree (choices_passes q))
+  refused_exactly = (
+    λ (r, h). refused_fails h,
+    λ f. got_unless (refusal p G)
+        (λ h.
+        let (s, q) = choices_finish (passed G ok p h) in
+        f s.tree (choices_passes q)),
+  )
 
-  pub stuck_refused : choices p G ≡ nothing → (r : Refusal) × (refusal p G ≡ got r)
-  stuck_refused q = go (refusal p G) refl
-    where
-      go : (o : Found Refusal) → refusal p G ≡ o → (r : Refusal) × (refusal p G ≡ got r)
-      go (got r) h = (r, h)
-      go nothing h = got_or_nothing (choices_finish (passed G ok p h)).1 q
+  pub stuck_refused : choices p G ≡ None → (r : Refusal) × (refusal p G ≡ Some r)
+  stuck_refused q = got_unless _ (λ h. cc ((choices_finish (passed G ok p h)).1, q))
 
-  pub finished_unrefused : {s : State} → choices p G ≡ got s → refusal p G ≡ nothing
+  pub finished_unrefused : {s : State} → choices p G ≡ Some s → refusal p G ≡ None
   finished_unrefused {s} q = go (refusal p G) refl
     where
-      go : (o : Found Refusal) → refusal p G ≡ o → o ≡ nothing
-      go (got r) h = absurd (refused_fails h s.tree (choices_passes q))
-      go nothing h = refl
+      go : (o : Option Refusal) → refusal p G ≡ o → o ≡ None
+      go (Some r) h = absurd (refused_fails h s.tree (choices_passes q))
+      go None h = refl
 
-  pub draw_first : is_got (choices p G) ≡ not (is_got (refusal p G))
+  pub draw_first : is_some (choices p G) ≡ not (is_some (refusal p G))
   draw_first = go (choices p G) refl
     where
-      go : (o : Found State) → choices p G ≡ o → is_got o ≡ not (is_got (refusal p G))
-      go (got s) q = rw (finished_unrefused q)
-      go nothing q = rw (stuck_refused q).1
+      go : (o : Option State) → choices p G ≡ o → is_some o ≡ not (is_some (refusal p G))
+      go (Some s) q = rw (finished_unrefused q)
+      go None q = rw (stuck_refused q).1

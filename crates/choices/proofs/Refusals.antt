@@ -7,14 +7,10 @@
 --     given12        12: neither 10 nor 11; the same of the link l
 --     passed         where no refusal is given, none is due
 -- Assumes nothing.
-use mathlib.Core.Bool.{Bool, true, false, not}
-use mathlib.Core.Path.{◌≡◌, refl, ◌∙◌}
-use mathlib.Core.Logic.{◌≢◌, ◌↔◌}
-use Prim.Native.Nat.{ℕ}
-use native.Mathlib.Omega.{arith}
-use lib.Dec.{eqb}
-use borrow.Author.Tests.{eqb-true, eqb-false, eq-eqb, ne_eqb, not-true}
-use Rattle.network.specs.Search.{Found, got, nothing, when, or_else, on_found}
+use Rattle.std.proofs.Common.{Bool, true, false, not, ◌≡◌, refl, ◌∙◌, ◌≢◌, ◌↔◌, ℕ, eqb, eqb-true, eq-eqb, ne_eqb, Option, Some, None}
+use Rattle.std.proofs.lemmas.Bool.{eqb-false, not-true}
+use Rattle.std.specs.Option.{option_or}
+use Rattle.network.specs.Search.{when, on_found}
 use Rattle.network.specs.Graph.{Graph, WellFormed, link_code, no_loss}
 use Rattle.network.proofs.Tests.{test}
 use Rattle.choices.specs.Refuse.{Refusal, refusing, Spares, LowestCut, NodesSpare, Sturdy}
@@ -25,27 +21,27 @@ use Rattle.choices.proofs.Cutters.{Missed, Cutter, some, all, missed_is, missed_
 use Rattle.choices.proofs.Cutters.{cutter_is, cutter_only}
 
 -- What a refusal of each number says.
-abbrev Says : ℕ → Graph → Found Refusal → Type 0
-Says p G nothing = Unit {0}
-Says p G (got r) =
+abbrev Says : ℕ → Graph → Option Refusal → Type 0
+Says p G None = Unit {0}
+Says p G (Some r) =
     (r.number ≡ 10 → LowestCut G no_loss r.place)
     × (r.number ≡ 11 → Spares G no_loss × NodeCuts p G r.place r.other)
     × (r.number ≡ 12 → Spares G no_loss × NodesSpare p G × LinkCuts G r.place r.other)
 
-says : {p : ℕ} {G : Graph} {o : Found Refusal} → Due p G o → Says p G o
+says : {p : ℕ} {G : Graph} {o : Option Refusal} → Due p G o → Says p G o
 says (none s) = tt
-says (due10 x) = (λ _. x, λ e. absurd (omega arith), λ e. absurd (omega arith))
-says (due11 x k) = (λ e. absurd (omega arith), λ _. (x, k), λ e. absurd (omega arith))
-says (due12 x n k) = (λ e. absurd (omega arith), λ e. absurd (omega arith), λ _. (x, n, k))
+says (due10 x) = (λ _. x, λ e. cc, λ e. cc)
+says (due11 x k) = (λ e. cc, λ _. (x, k), λ e. cc)
+says (due12 x n k) = (λ e. cc, λ e. cc, λ _. (x, n, k))
 
 module _ (G : Graph) (ok : WellFormed G) where
-  abbrev Nodes : Found Refusal → Type 0
+  abbrev Nodes : Option Refusal → Type 0
   Nodes = Cutter G 11 G.nodes (λ c. not (eqb c G.source)) (λ c. c)
 
-  abbrev Links : Found Refusal → Type 0
+  abbrev Links : Option Refusal → Type 0
   Links = Cutter G 12 G.links (λ l. true) link_code
 
-  due_link : {p : ℕ} {o : Found Refusal} → Spares G no_loss → NodesSpare p G → Links o → Due p G o
+  due_link : {p : ℕ} {o : Option Refusal} → Spares G no_loss → NodesSpare p G → Links o → Due p G o
   due_link x y (some lt t c b) =
       due12 x y (record { link = lt; cuts = c; lower = λ k l. b k l refl })
   due_link x y (all z) = none (record { joined = x; nodes = y; links = λ l lt. z l lt refl })
@@ -56,8 +52,8 @@ module _ (G : Graph) (ok : WellFormed G) where
   not_the_source : (c : ℕ) → not (eqb c G.source) ≡ true → c ≢ G.source
   not_the_source c t = eqb-false c G.source (not-true _ t)
 
-  due_node : {p : ℕ} {n l : Found Refusal} → p ≡ 0 → Spares G no_loss → Nodes n → Links l
-      → Due p G (or_else n l)
+  due_node : {p : ℕ} {n l : Option Refusal} → p ≡ 0 → Spares G no_loss → Nodes n → Links l
+      → Due p G (option_or n l)
   due_node z x (some {i = c} lt t k b) y =
       due11 x (record {
         asked = z;
@@ -76,16 +72,16 @@ module _ (G : Graph) (ok : WellFormed G) where
       let links = cutter_is G ok 12 _ _ _ in
       go (eqb p 0) refl (missed_is G ok no_loss) nodes links
     where
-      go : {m : Found ℕ} {n l : Found Refusal} (b : Bool) → eqb p 0 ≡ b → Missed G no_loss m → Nodes n
+      go : {m : Option ℕ} {n l : Option Refusal} (b : Bool) → eqb p 0 ≡ b → Missed G no_loss m → Nodes n
           → Links l
-          → Due p G (or_else (on_found m (λ v. refusing 10 v 0) nothing) (or_else (when b n) l))
+          → Due p G (option_or (on_found m (λ v. refusing 10 v 0) None) (option_or (when b n) l))
       go b q (some x) y z = due10 x
       go true q (all x) y z = due_node (eqb-true p 0 q) x y z
       go false q (all x) y z = due_link x (λ e. absurd (eqb-false p 0 q e)) z
 
   -- And no other refusal is in its stated condition where no earlier one is.
 
-  no_miss : (c : ℕ) → Spares G c → missed G c ≡ nothing
+  no_miss : (c : ℕ) → Spares G c → missed G c ≡ None
   no_miss c f = missed_only G (missed_is G ok c) (all f)
 
   by_nodes : {p : ℕ} → Spares G no_loss → NodesSpare p G → refusal p G ≡ refuse12 G
@@ -93,11 +89,11 @@ module _ (G : Graph) (ok : WellFormed G) where
   by_nodes {p} x y =
       test (eqb p 0)
       (λ z.
-      let spare : Nodes nothing = all (λ c lt t. y (eqb-true p 0 z) c lt (not_the_source c t)) in
+      let spare : Nodes None = all (λ c lt t. y (eqb-true p 0 z) c lt (not_the_source c t)) in
       rw (no_miss no_loss x, z, cutter_only G (cutter_is G ok 11 _ _ _) spare))
       (λ z. rw (no_miss no_loss x, z))
 
-  pub refusal_only : {p : ℕ} {o : Found Refusal} → Due p G o → refusal p G ≡ o
+  pub refusal_only : {p : ℕ} {o : Option Refusal} → Due p G o → refusal p G ≡ o
   unfolding refusal refuse10 refuse11 refuse12
   refusal_only (none s) =
       by_nodes s.joined s.nodes
@@ -111,17 +107,17 @@ module _ (G : Graph) (ok : WellFormed G) where
       let here : Links _ = some k.link refl k.cuts (λ j l t. k.lower j l) in
       by_nodes x y ∙ cutter_only G (cutter_is G ok 12 _ _ _) here
 
-  pub refusal_exactly : (p : ℕ) (o : Found Refusal) → (refusal p G ≡ o) ↔ Due p G o
+  pub refusal_exactly : (p : ℕ) (o : Option Refusal) → (refusal p G ≡ o) ↔ Due p G o
   refusal_exactly p o = (λ e. rw e at (refusal_is p), refusal_only)
 
-  pub passed : (p : ℕ) → refusal p G ≡ nothing → Sturdy p G
+  pub passed : (p : ℕ) → refusal p G ≡ None → Sturdy p G
   passed p e = go (rw e at (refusal_is p))
     where
-      go : Due p G nothing → Sturdy p G
+      go : Due p G None → Sturdy p G
       go (none s) = s
 
   -- The refusals one by one.
-  said : (p : ℕ) {o : Found Refusal} → refusal p G ≡ o → Says p G o
+  said : (p : ℕ) {o : Option Refusal} → refusal p G ≡ o → Says p G o
   said p e = says (rw e at (refusal_is p))
 
   pub given10 : (p v : ℕ) → (refusal p G ≡ refusing 10 v 0) ↔ LowestCut G no_loss v

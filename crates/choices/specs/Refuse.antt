@@ -14,8 +14,9 @@
 --     refuse12 G          a link cuts others off: the lowest such link, the lowest node cut off
 --     refusal p G         the first of them that there is, 11 under node protection alone
 -- Assumes nothing.
-use Rattle.std.specs.Prelude.{◌≡◌, ◌≢◌, Bool, true, not, ◌&&◌, ℕ, ◌<◌, eqb}
-use Rattle.network.specs.Search.{Found, got, nothing, when, or_else, on_found, first, lowest}
+use Rattle.std.specs.Prelude.{◌≡◌, ◌≢◌, Bool, true, not, ◌&&◌, ℕ, ◌<◌, Option, Some, None, ◌==◌}
+use Rattle.std.specs.Option.{option_or}
+use Rattle.network.specs.Search.{when, on_found, first, lowest}
 use Rattle.network.specs.Graph.{Graph, link_code, no_loss}
 use Rattle.network.specs.Way.{CutsOff, has_way}
 
@@ -24,8 +25,8 @@ pub record Refusal : Type 0 where
   pub place : ℕ
   pub other : ℕ
 
-abbrev pub refusing : ℕ → ℕ → ℕ → Found Refusal
-refusing n k v = got (record { number = n; place = k; other = v })
+abbrev pub refusing : ℕ → ℕ → ℕ → Option Refusal
+refusing n k v = Some (record { number = n; place = k; other = v })
 
 abbrev pub Spares : Graph → ℕ → Type 0
 Spares G c = (v : ℕ) → ¬ (CutsOff G c v)
@@ -57,29 +58,29 @@ pub record Sturdy (p : ℕ) (G : Graph) : Type 0 where
   pub nodes : NodesSpare p G
   pub links : (l : ℕ) → l < G.links → Spares G (link_code l)
 
-pub data Due (p : ℕ) (G : Graph) : Found Refusal → Type 0 where
-  none : Sturdy p G → Due p G nothing
+pub data Due (p : ℕ) (G : Graph) : Option Refusal → Type 0 where
+  none : Sturdy p G → Due p G None
   due10 : {v : ℕ} → LowestCut G no_loss v → Due p G (refusing 10 v 0)
   due11 : {c v : ℕ} → Spares G no_loss → NodeCuts p G c v → Due p G (refusing 11 c v)
   due12 : {l v : ℕ} → Spares G no_loss → NodesSpare p G → LinkCuts G l v → Due p G (refusing 12 l v)
 
 module _ (G : Graph) where
-  unfoldable pub missed : ℕ → Found ℕ
-  missed c = lowest G.nodes (λ v. not (eqb v c) && not (has_way G c v))
+  unfoldable pub missed : ℕ → Option ℕ
+  missed c = lowest G.nodes (λ v. not (v == c) && not (has_way G c v))
 
   -- The refusal at the lowest i below k that may cut, and whose loss `code i` cuts a node off.
-  unfoldable pub cutter : ℕ → ℕ → (ℕ → Bool) → (ℕ → ℕ) → Found Refusal
+  unfoldable pub cutter : ℕ → ℕ → (ℕ → Bool) → (ℕ → ℕ) → Option Refusal
   cutter number k may code =
-      first k (λ i. when (may i) (on_found (missed (code i)) (refusing number i) nothing))
+      first k (λ i. when (may i) (on_found (missed (code i)) (refusing number i) None))
 
-  unfoldable pub refuse10 : Found Refusal
-  refuse10 = on_found (missed no_loss) (λ v. refusing 10 v 0) nothing
+  unfoldable pub refuse10 : Option Refusal
+  refuse10 = on_found (missed no_loss) (λ v. refusing 10 v 0) None
 
-  unfoldable pub refuse11 : Found Refusal
-  refuse11 = cutter 11 G.nodes (λ c. not (eqb c G.source)) (λ c. c)
+  unfoldable pub refuse11 : Option Refusal
+  refuse11 = cutter 11 G.nodes (λ c. not (c == G.source)) (λ c. c)
 
-  unfoldable pub refuse12 : Found Refusal
+  unfoldable pub refuse12 : Option Refusal
   refuse12 = cutter 12 G.links (λ l. true) link_code
 
-unfoldable pub refusal : ℕ → Graph → Found Refusal
-refusal p G = or_else (refuse10 G) (or_else (when (eqb p 0) (refuse11 G)) (refuse12 G))
+unfoldable pub refusal : ℕ → Graph → Option Refusal
+refusal p G = option_or (refuse10 G) (option_or (when (p == 0) (refuse11 G)) (refuse12 G))

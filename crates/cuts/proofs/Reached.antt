@@ -1,69 +1,67 @@
 -- The laws of marking.
 --     gain_as                      the test by which a program finds what is gained
---     gain_open, gain_shut         what is gained by a link, and when nothing is
+--     gain_new                     what is gained by a link is a node, and new
 --     turn_in, turn_all            up or down, it comes by each number below m, and by no other
---     passed_none, passed_still, passed_more
+--     passed_none, passed_still, passed_more, passed_end
 --                                  a pass, link by link: at its start, by a link along which the
---                                  set may not grow, and by one along which it does
---     passed_as                    the same pass at equal words, flag and count
+--                                  set may not grow, by one along which it does, and at its end
 --     marked_one                   the set of the source alone, at the start
+--     marked_more                  a pass by which it grew
 --     reached_all                  where a pass adds nothing, the set is who has a way
 --     reached_full                 and so where it lacks no node but c
 -- Assumes nothing.
-use mathlib.Core.Bool.{Bool, true, false, not, ◌&&◌, ◌||◌, cond, xor, beq}
-use mathlib.Core.Bool.{or-true, true≢false}
-use mathlib.Core.Path.{◌≡◌, refl, sym, subst₃, ◌∙◌}
-use mathlib.Core.List.{List}
-use Prim.Native.Nat.{ℕ, ◌+◌, ◌-◌, ◌<◌, ◌≤◌}
-use native.Mathlib.Omega.{arith}
-use lib.Dec.{eqb, ltb}
-use borrow.Author.Count.{below_none, below_more}
-use borrow.Author.Tests.{eqb-true, eq-eqb, ne_eqb, lt-ltb}
+use Rattle.std.proofs.Common.{Bool, true, false, not, ◌&&◌, ◌||◌, cond, true≢false, ◌≡◌, refl, sym, ap, ◌∙◌, List, ℕ, ◌+◌, ◌-◌, ◌<◌, ◌≤◌, arith, eqb, ltb, below_none, below_more, eqb-true, eq-eqb, ne_eqb, lt-ltb}
+use Rattle.std.proofs.Math.Bool.{xor, beq, or-true}
+use Rattle.std.proofs.lemmas.Bool.{and_parts}
+use Rattle.std.specs.Prelude.{Option, Some, None, unwrap_or}
+use Rattle.network.specs.Search.{when}
 use Rattle.network.specs.Set.{add}
 use Rattle.network.specs.Graph.{Graph, WellFormed, link_code}
 use Rattle.network.specs.Way.{Way, here, step, crosses, out_end, opens, has_way}
-use Rattle.network.proofs.Tests.{test, both}
+use Rattle.network.proofs.Tests.{test}
+use Rattle.network.proofs.Search.{when_got, when_nothing}
 use Rattle.network.proofs.Graph.{joins_sym, joins_in}
 use Rattle.network.proofs.Way.{way_in, crossing, founded_more, closed_is, has_way_is}
-use Rattle.nodeset.specs.Set.{has}
+use Rattle.nodeset.specs.declared.NodeSet.{NodeSet}
+use Rattle.nodeset.specs.Set.{has, size}
 use Rattle.nodeset.proofs.Size.{size_put}
-use Rattle.cuts.specs.Reached.{gain, turn, Passed}
+use Rattle.cuts.specs.Reached.{gain, turn, Passed, still, grown}
 
 -- What a program has read and tested of link l: a and b are its ends, x and y whether they are
 -- in.
 pub gain_as : (G : Graph) (c : ℕ) (R : ℕ → Bool) (l : ℕ) {a b : ℕ} {x y : Bool}
     → a ≡ G.near l → b ≡ G.far l → x ≡ R a → y ≡ R b
     → gain G c R l
-    ≡ cond (not (beq x y) && (not (eqb c (link_code l)) && not (eqb c (cond x b a))))
-    (cond x b a) 256
+    ≡ when (not (beq x y) && (not (eqb c (link_code l)) && not (eqb c (cond x b a))))
+    (Some (cond x b a))
 unfolding gain opens crosses out_end xor
 gain_as G c R l q r f g = rw (f, g, q, r)
 
 module _ (G : Graph) (ok : WellFormed G) (c : ℕ) (R : ℕ → Bool) (l : ℕ) (b : l < G.links) where
   open_cross : opens G c R l ≡ true → crosses G R l ≡ true
   unfolding opens
-  open_cross o = (both (crosses G R l) _ o).0
+  open_cross o = (and_parts (crosses G R l) _ o).0
 
   -- The node at the other end is new, and is a node.
-  pub open_new : opens G c R l ≡ true → (out_end G R l < 256) × (R (out_end G R l) ≡ false)
+  open_new : opens G c R l ≡ true → (out_end G R l < 256) × (R (out_end G R l) ≡ false)
   open_new o =
       let x = crossing G R l b (open_cross o) in
       (omega (arith, joins_in ok (joins_sym x.over), ok.few_nodes), x.out)
 
-  pub gain_open : {v : ℕ} → v ≡ gain G c R l → v < 256
-      → (opens G c R l ≡ true) × (v ≡ out_end G R l)
+  gain_open : {v : ℕ} → gain G c R l ≡ Some v → (opens G c R l ≡ true) × (out_end G R l ≡ v)
   unfolding gain
-  gain_open e h =
-      test (opens G c R l)
-      (λ t. (t, rw t at e))
-      (λ f. let q = rw f at e in absurd (omega arith))
+  gain_open e =
+      let (t, q) = when_got (opens G c R l) (Some (out_end G R l)) _ e in
+      (t, cc)
 
-  pub gain_shut : {v : ℕ} → v ≡ gain G c R l → 256 ≤ v → opens G c R l ≡ false
+  gain_shut : gain G c R l ≡ None → opens G c R l ≡ false
   unfolding gain
-  gain_shut {v} e h =
-      test (opens G c R l)
-      (λ t. let q = rw t at e in absurd (omega (arith, (open_new t).0)))
-      (λ f. f)
+  gain_shut e = when_nothing (opens G c R l) (out_end G R l) e
+
+  pub gain_new : {v : ℕ} → gain G c R l ≡ Some v → (v < 256) × (R v ≡ false)
+  gain_new e =
+      let (o, q) = gain_open e in
+      rw q at (open_new o)
 
 pub turn_in : (up : Bool) (m i : ℕ) → i < m → turn up m i < m
 turn_in true m i h = h
@@ -76,58 +74,62 @@ turn_all false m P all l h =
     let q : m - 1 - (m - 1 - l) ≡ l = omega arith in
     rw q at (all (m - 1 - l) (omega arith))
 
-module _ {G : Graph} {c : ℕ} {up : Bool} {ws : List ℕ} where
-  pub passed_none : Passed G c up ws ws false 0
-  passed_none = record {
-    kept = λ s. s;
-    founded = λ all. all;
-    closed = λ e. below_none _;
-    least = omega arith;
-    more = λ e. absurd (true≢false (sym e));
-  }
+pub passed_none : {G : Graph} {c : ℕ} {up : Bool} {ws : List ℕ} → Passed G c up ws 0 None
+passed_none = still (below_none _)
 
-  pub passed_as : {vs us : List ℕ} {q r : Bool} {i k : ℕ} → vs ≡ us → q ≡ r → i ≡ k
-      → Passed G c up ws us r k → Passed G c up ws vs q i
-  passed_as e f g p =
-      subst₃ (λ (x : List ℕ) (y : Bool) (z : ℕ). Passed G c up ws x y z) (sym e) (sym f) (sym g) p
+-- By link i of the pass over s, which has left o so far.
+module _ {G : Graph} {c : ℕ} {up : Bool} {s : NodeSet} {i : ℕ} (ok : WellFormed G)
+    (b : i < G.links) where
+  pub passed_still : {o : Option NodeSet} → Passed G c up s.words i o
+      → gain G c (has (unwrap_or o s).words) (turn up G.links i) ≡ None
+      → Passed G c up s.words (i + 1) o
+  passed_still (still all) e =
+      still (below_more _ i all (gain_shut G ok c (has s.words) _ (turn_in up _ i b) e))
+  passed_still (grown kept founded less) e = grown kept founded less
 
-  -- By link i of the pass, by which v is gained, or 256.
-  module _ {vs : List ℕ} {r : Bool} {i : ℕ} (p : Passed G c up ws vs r i) (ok : WellFormed G)
-      (b : i < G.links) {v : ℕ} (e : v ≡ gain G c (has vs) (turn up G.links i)) where
-    abbrev at : ℕ
-    at = turn up G.links i
+  -- One node more than vs has, which are no fewer than those of s.
+  one_more : (vs : List ℕ) → (has s.words G.source ≡ true → has vs G.source ≡ true)
+      → (((v : ℕ) → has s.words v ≡ true → Way G c v) → (v : ℕ) → has vs v ≡ true → Way G c v)
+      → size s.words ≤ size vs
+      → {v : ℕ} → gain G c (has vs) (turn up G.links i) ≡ Some v
+      → {t : NodeSet} → ((j : ℕ) → has t.words j ≡ (eqb j v || has vs j))
+      → Passed G c up s.words (i + 1) (Some t)
+  unfolding add
+  one_more vs kept founded least {v} e {t} new =
+      let lt = turn_in up _ i b in
+      let (o, q) = gain_open G ok c (has vs) _ lt e in
+      let (small, out) = gain_new G ok c (has vs) _ lt e in
+      grown (λ h. new G.source ∙ rw (kept h) (or-true (eqb G.source v)))
+      (λ all u h. founded_more G c (has vs) _ lt o (founded all) u (rw q (sym (new u) ∙ h)))
+      (omega (arith, least, size_put vs t.words v small out new))
 
-    pub passed_still : 256 ≤ v → Passed G c up ws vs r (i + 1)
-    passed_still h =
-        let shut = gain_shut G ok c (has vs) at (turn_in up _ i b) e h in
-        record {
-          kept = p.kept;
-          founded = p.founded;
-          closed = λ q. below_more _ i (p.closed q) shut;
-          least = p.least;
-          more = p.more;
-        }
+  pub passed_more : {o : Option NodeSet} → Passed G c up s.words i o
+      → {v : ℕ} → gain G c (has (unwrap_or o s).words) (turn up G.links i) ≡ Some v
+      → {t : NodeSet} → ((j : ℕ) → has t.words j ≡ (eqb j v || has (unwrap_or o s).words j))
+      → Passed G c up s.words (i + 1) (Some t)
+  passed_more (still all) e new = one_more s.words (λ h. h) (λ all. all) (omega arith) e new
+  passed_more (grown {s = u} kept founded less) e new =
+      one_more u.words kept founded (omega arith) e new
 
-    pub passed_more : v < 256 → (us : List ℕ) → ((j : ℕ) → has us j ≡ (eqb j v || has vs j))
-        → Passed G c up ws us true (i + 1)
-    unfolding add
-    passed_more h us new =
-        let lt = turn_in up _ i b in
-        let (o, q) = gain_open G ok c (has vs) at lt e h in
-        let out = rw (← q) at (open_new G ok c (has vs) at lt o).1 in
-        let grown = size_put vs us v h out new in
-        record {
-          kept = λ s. new G.source ∙ rw (p.kept s) (or-true (eqb G.source v));
-          founded = λ all u t.
-              founded_more G c (has vs) at lt o (p.founded all) u (rw (← q) (sym (new u) ∙ t));
-          closed = λ x. absurd (true≢false x);
-          least = omega (arith, p.least, grown);
-          more = λ x. omega (arith, p.least, grown);
-        }
+-- t is the set that the pass leaves: it is s still, or it grew.
+pub passed_end : {G : Graph} {c : ℕ} {up : Bool} {s t : NodeSet} {k : ℕ} {o : Option NodeSet}
+    → Passed G c up s.words k o
+    → t ≡ unwrap_or o s
+    → (t.words ≡ s.words → Passed G c up s.words k None)
+    × (¬ (t.words ≡ s.words) → Passed G c up s.words k (Some t))
+passed_end (still all) e = (λ _. still all, λ n. absurd (n (ap (λ (x : NodeSet). x.words) e)))
+passed_end (grown kept founded less) e = (
+  λ q. let same = sym (ap (λ (x : NodeSet). x.words) e) ∙ q in
+      absurd (omega (arith, rw same at less)),
+  λ _. rw e (grown kept founded less),
+)
+
+-- The set holds the source, and each of its nodes has a way.
+abbrev pub Marked : Graph → ℕ → List ℕ → Type 0
+Marked G c ws = (has ws G.source ≡ true) × ((v : ℕ) → has ws v ≡ true → Way G c v)
 
 pub marked_one : (G : Graph) (c : ℕ) (none ws : List ℕ) → ((v : ℕ) → has none v ≡ false)
-    → ((v : ℕ) → has ws v ≡ eqb v G.source || has none v)
-    → (has ws G.source ≡ true) × ((v : ℕ) → has ws v ≡ true → Way G c v)
+    → ((v : ℕ) → has ws v ≡ eqb v G.source || has none v) → Marked G c ws
 marked_one G c none ws off on = (
   on G.source ∙ rw (eq-eqb G.source G.source refl),
   λ v h. test (eqb v G.source)
@@ -135,12 +137,15 @@ marked_one G c none ws off on = (
       (λ f. absurd (true≢false (sym h ∙ on v ∙ rw (f, off v)))),
 )
 
-pub reached_all : {G : Graph} {c : ℕ} {up r : Bool} {ws vs : List ℕ} → WellFormed G
-    → Passed G c up ws vs r G.links → r ≡ false → has ws G.source ≡ true
-    → ((v : ℕ) → has ws v ≡ true → Way G c v) → (v : ℕ) → has vs v ≡ has_way G c v
-reached_all {G} {c} {up} {vs = vs} ok p e s all =
-    closed_is G c ok (has vs) (p.kept s) (p.founded all)
-    (turn_all up G.links (λ l. opens G c (has vs) l ≡ false) (p.closed e))
+module _ {G : Graph} {c : ℕ} {up : Bool} {ws : List ℕ} (m : Marked G c ws) where
+  pub marked_more : {t : NodeSet} → Passed G c up ws G.links (Some t)
+      → Marked G c t.words × (size ws < size t.words)
+  marked_more (grown kept founded less) = ((kept m.0, founded m.1), less)
+
+  pub reached_all : WellFormed G → Passed G c up ws G.links None → (v : ℕ)
+      → has ws v ≡ has_way G c v
+  reached_all ok (still all) =
+      closed_is G c ok (has ws) m.0 m.1 (turn_all up G.links (λ l. opens G c (has ws) l ≡ false) all)
 
 module _ (G : Graph) (c : ℕ) (R : ℕ → Bool) (ok : WellFormed G) (s : R G.source ≡ true) where
   abbrev pub NoOther : Type 0

@@ -1,23 +1,40 @@
--- Refusals 10 to 12 as answers.
+-- Refusals 10 to 12 as a program finds them.
 --     missed_by G c      the lowest node that the loss c cuts off; the source is no loss
---     cut_by n x         the refusal n that a cut tells of, if it names a node
---     cut_answer o       the answer that gives a refusal: its number, place, other; or success
+--     cut_by n o         the refusal n that a cut tells of, where there is one
+--     told e             document 01's number and values for each case
+--     refused o          the refusal of an outcome, where there is one
+--     answer_to r        the answer that gives a refusal: its number, place, other
+--     cut_answer o       the answer that gives a refusal, or else success
 -- Assumes nothing.
-use Rattle.std.specs.Prelude.{not, ℕ, eqb}
-use Rattle.network.specs.Search.{Found, got, nothing, when, on_found}
+use Rattle.std.specs.Prelude.{not, ℕ, Option, Some, None, Result, Ok, Err, ◌==◌}
+use Rattle.network.specs.Search.{when}
 use Rattle.network.specs.Graph.{Graph}
 use Rattle.choices.specs.Refuse.{Refusal, refusing, missed}
-use Rattle.nodeset.specs.Set.{found_at}
 use Rattle.reader.specs.declared.Answer.{Answer}
 use Rattle.reader.specs.Answer.{answer, fine}
 use Rattle.cuts.specs.declared.Cut.{Cut}
+use Rattle.cuts.specs.declared.CutOff.{CutOff}
+use Rattle.cuts.specs.declared.CutOff.TheVariants.{Unjoined, ByNode, ByLink}
 
-unfoldable pub missed_by : Graph → ℕ → Found ℕ
-missed_by G c = when (not (eqb c G.source)) (missed G c)
+unfoldable pub missed_by : Graph → ℕ → Option ℕ
+missed_by G c = when (not (c == G.source)) (missed G c)
 
-unfoldable pub cut_by : ℕ → Cut → Found Refusal
-cut_by number x = on_found (found_at x.node) (refusing number x.place) nothing
+abbrev pub cut_by : ℕ → Option Cut → Option Refusal
+cut_by number (Some x) = refusing number x.place x.node
+cut_by number None = None
 
-abbrev pub cut_answer : Found Refusal → Answer
-cut_answer (got r) = answer r.number r.place r.other
-cut_answer nothing = fine
+abbrev pub told : CutOff → Refusal
+told (Unjoined v) = record { number = 10; place = v; other = 0 }
+told (ByNode x) = record { number = 11; place = x.place; other = x.node }
+told (ByLink x) = record { number = 12; place = x.place; other = x.node }
+
+abbrev pub refused : {A : Type 0} → Result A CutOff → Option Refusal
+refused (Ok a) = None
+refused (Err e) = Some (told e)
+
+abbrev pub answer_to : Refusal → Answer
+answer_to r = answer r.number r.place r.other
+
+abbrev pub cut_answer : Option Refusal → Answer
+cut_answer (Some r) = answer_to r
+cut_answer None = fine

@@ -1,30 +1,31 @@
 -- Marking: a set of nodes grows from the source, link by link and pass by pass.
 --     gain G c R l                 the node that the set R gains by link l without the part with
---                                  code c, or 256
+--                                  code c
 --     turn up m i                  the i-th of m numbers, up from 0 or down to it
---     Passed G c up ws vs r k      after k links of a pass: vs are the words of the set that was
---                                  ws, and r tells whether it grew
+--     Passed G c up ws k o         after k links of a pass over the set with words ws: o is the set
+--                                  that it leaves, where it grew
 -- Assumes nothing.
-use Rattle.std.specs.Prelude.{◌≡◌, Bool, true, false, cond, List, ℕ, ◌-◌, ◌≤◌, ◌<◌}
+use Rattle.std.specs.Prelude.{◌≡◌, Bool, true, false, List, ℕ, ◌-◌, ◌<◌, Option, Some, None}
+use Rattle.network.specs.Search.{when}
 use Rattle.network.specs.Graph.{Graph}
 use Rattle.network.specs.Way.{Way, opens, out_end}
 use Rattle.nodeset.specs.Set.{has, size}
+use Rattle.nodeset.specs.declared.NodeSet.{NodeSet}
 
-unfoldable pub gain : Graph → ℕ → (ℕ → Bool) → ℕ → ℕ
-gain G c R l = cond (opens G c R l) (out_end G R l) 256
+unfoldable pub gain : Graph → ℕ → (ℕ → Bool) → ℕ → Option ℕ
+gain G c R l = when (opens G c R l) (Some (out_end G R l))
 
 abbrev pub turn : Bool → ℕ → ℕ → ℕ
 turn true m i = i
 turn false m i = m - 1 - i
 
-pub record Passed (G : Graph) (c : ℕ) (up : Bool) (ws vs : List ℕ) (r : Bool) (k : ℕ) : Type 0
+pub data Passed (G : Graph) (c : ℕ) (up : Bool) (ws : List ℕ) (k : ℕ) : Option NodeSet → Type 0
   where
-    -- the source stays
-    pub kept : has ws G.source ≡ true → has vs G.source ≡ true
-    -- where all nodes had ways, all have
-    pub founded : ((v : ℕ) → has ws v ≡ true → Way G c v) → (v : ℕ) → has vs v ≡ true → Way G c v
-    -- a pass that adds no node has come by no link along which one could be added
-    pub closed : r ≡ false → (i : ℕ) → i < k → opens G c (has vs) (turn up G.links i) ≡ false
-    -- the set does not shrink, and where r tells so it grows
-    pub least : size ws ≤ size vs
-    pub more : r ≡ true → size ws < size vs
+    -- it has come by no link along which a node could be added
+    still : ((i : ℕ) → i < k → opens G c (has ws) (turn up G.links i) ≡ false)
+        → Passed G c up ws k None
+    -- the source stays; where all nodes had ways, all have; and there are more
+    grown : {s : NodeSet} → (has ws G.source ≡ true → has s.words G.source ≡ true)
+        → (((v : ℕ) → has ws v ≡ true → Way G c v) → (v : ℕ) → has s.words v ≡ true → Way G c v)
+        → size ws < size s.words
+        → Passed G c up ws k (Some s)

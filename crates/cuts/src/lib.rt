@@ -1,198 +1,186 @@
 #![tactic(auto)]
 
-// Refusals 10 to 12: what a loss cuts off from the source. Asks for a list of link ends that holds
-// those of a table (`Filled`), and reads it by the accessors of `records` alone.
-ghost use Rattle.std.specs.Prelude.{◌≡◌, not, ◌&&◌, ℕ, ◌+◌, ◌≤◌, ◌<◌, eqb, ltb};
+// Refusals 10 to 12: what a loss cuts off from the source. Reads a network by its links alone.
+ghost use Rattle.std.specs.Prelude.{◌≡◌, not, ◌&&◌, ℕ, ◌+◌, ◌≤◌, ◌<◌, ◌==◌, nat_lt};
 ghost use Rattle.network.specs.Way.{has_way};
 ghost use Rattle.choices.specs.Refuse.{missed, cutter, refusal};
-ghost use Rattle.nodeset.specs.Set.{has, found_at};
-ghost use Rattle.reader.specs.Ends.{graph_in, Filled};
+ghost use Rattle.nodeset.specs.Set.{has};
+ghost use Rattle.reader.specs.Network.{graph};
 ghost use Rattle.cuts.specs.Reached.{gain, turn, Passed};
-ghost use Rattle.cuts.specs.Cut.{missed_by, cut_by, cut_answer};
+ghost use Rattle.cuts.specs.Cut.{missed_by, cut_by, told, refused, answer_to};
 
 use nodeset::NodeSet;
-use reader::{Answer, Shape};
+use reader::{Answer, Network};
+use records::Link;
 
-// The set after a pass, and whether it grew.
-#[derive(Clone, Copy)]
-struct Spread {
-    set: NodeSet,
-    grown: bool,
+/// A loss that cuts a node off, by its place among those that are tried, and the lowest such node.
+#[derive(Clone, Copy, Debug, PartialEq, Eq, Hash)]
+pub struct Cut {
+    pub place: usize,
+    pub node: usize,
 }
 
-// The lowest of some losses that cuts a node off, by its place among them, and the lowest node that
-// it cuts off; 256 where none does.
-#[derive(Clone, Copy)]
-struct Cut {
-    place: usize,
-    node: usize,
+/// Why no plan protects a network.
+#[derive(Clone, Copy, Debug, PartialEq, Eq, Hash)]
+pub enum CutOff {
+    /// 10: a node is not joined to the source: the lowest such.
+    Unjoined { node: usize },
+
+    /// 11: a node cuts others off.
+    ByNode(Cut),
+
+    /// 12: a link cuts others off.
+    ByLink(Cut),
 }
 
-const NO_NODE: usize = 256;
+impl From<CutOff> for Answer {
+    ghost from_gives = { λ cause answer. answer ≡ answer_to (told cause) };
 
+    fn from(cause: CutOff) -> Answer {
+        match cause {
+            CutOff::Unjoined { node } => Answer::new(10, node, 0),
+            CutOff::ByNode(cut) => Answer::new(11, cut.place, cut.node),
+            CutOff::ByLink(cut) => Answer::new(12, cut.place, cut.node),
+        }
+    }
+}
+
+// The code of a loss that takes no part away. (A loss is a code and no enum, as in the definitions:
+// node k is k and link l is 256 + l, so that one law serves both.)
 const NO_LOSS: usize = 1280;
 
-// The node that s gains by link l without c, or 256. (Most links have both ends in or both out.)
-fn gain(ends: &[u16], h: Shape, c: usize, l: usize, s: NodeSet) -> usize
-    requires { Filled h ends.now × (l < h.links) }
-    ensures { result ≡ gain (graph_in h ends.now) c (has s.words) l }
-{
-    let a = records::near(ends, l);
-    let b = records::far(ends, l);
-    let x = nodeset::has(s, a);
-    let y = nodeset::has(s, b);
-    if x == y {
-        return NO_NODE;
-    }
-    if c == 256 + l {
-        return NO_NODE;
-    }
-    if x {
-        if c == b {
-            return NO_NODE;
-        }
-        return b;
-    }
-    if c == a {
-        return NO_NODE;
-    }
-    a
-}
-
-// The i-th of m numbers, up from 0 or down to it.
+// The i-th of m numbers, up from 0 or down to it. (An iterator passed to `pass` would want clauses
+// that it ends, that each of its items is a link, and that each link is an item.)
 fn turn(up: bool, m: usize, i: usize) -> usize
     requires { i < m }
     ensures { result ≡ turn up m i }
 {
-    if up {
-        return i;
-    }
-    m - 1 - i
+    if up { i } else { m - 1 - i }
 }
 
-// One pass over all links.
-fn pass(ends: &[u16], h: Shape, c: usize, up: bool, s: NodeSet) -> Spread
-    requires { Filled h ends.now }
-    ensures { Passed (graph_in h ends.now) c up s.words result.set.words result.grown h.links }
-{
-    let links = h.links;
-    let mut set = s;
-    let mut grown = false;
-    let mut i: usize = 0;
-    while i < links {
-        let v = gain(ends, h, c, turn(up, links, i), set);
-        if v < NO_NODE {
-            set = nodeset::with(set, v);
-            grown = true;
+// A network without the part that a loss names by its code.
+#[derive(Clone, Copy)]
+struct Without<'a> {
+    network: Network<'a>,
+    loss: usize,
+}
+
+impl<'a> Without<'a> {
+    // The node that a set gains by link l. (Most links have both ends in or both out.)
+    fn gain(self, l: usize, set: NodeSet) -> Option<usize>
+        requires { l < self.network.shape.links }
+        ensures { result ≡ gain (graph self.entry.network) self.entry.loss (has set.words) l }
+    {
+        let Link { near, far } = Link::at(self.network.ends, l);
+        let near_in = set.has(near);
+        if near_in == set.has(far) {
+            return None;
         }
-        i += 1;
-    }
-    Spread {
-        set: set,
-        grown: grown,
-    }
-}
-
-// The nodes below n that are neither in s nor c.
-fn others(n: usize, s: NodeSet, c: usize) -> NodeSet
-    requires { n ≤ 256 }
-    ensures { (v : ℕ) → has result.words v ≡ ltb v n && (not (eqb v c) && not (has s.words v)) }
-{
-    let out = nodeset::minus(nodeset::full(n), s);
-    if c < 256 {
-        return nodeset::without(out, c);
-    }
-    out
-}
-
-// The nodes that have a way to the source without the part with code c. Marks spread from the
-// source, by passes that go up the list and down it by turns, until one adds nothing or no node is
-// left to add.
-fn reach(ends: &[u16], h: Shape, c: usize) -> NodeSet
-    requires { Filled h ends.now }
-    ensures { (v : ℕ) → has result.words v ≡ has_way (graph_in h ends.now) c v }
-{
-    let mut s = nodeset::with(nodeset::empty(), h.source);
-    let mut up = true;
-    loop {
-        let r = pass(ends, h, c, up, s);
-        let next = r.set;
-        s = next;
-        up = !up;
-        if !r.grown {
-            return s;
+        if self.loss == 256 + l {
+            return None;
         }
-        if nodeset::count(others(h.nodes, s, c)) == 0 {
-            return s;
+        let new = if near_in { far } else { near };
+        if self.loss == new { None } else { Some(new) }
+    }
+
+    // One pass over all links, up the list or down it: the set that it leaves, where it grew.
+    fn pass(self, up: bool, set: NodeSet) -> Option<NodeSet>
+        ensures { Passed (graph self.entry.network) self.entry.loss up set.words self.entry.network.shape.links result }
+    {
+        let links = self.network.shape.links;
+        let mut grown = set;
+        for i in 0..links {
+            if let Some(node) = self.gain(turn(up, links, i), grown) {
+                grown = grown.with(node);
+            }
+        }
+        if grown == set { None } else { Some(grown) }
+    }
+
+    // The nodes that are neither in the set nor lost.
+    fn others(self, set: NodeSet) -> NodeSet
+        ensures { (v : ℕ) → has result.words v ≡ nat_lt v self.entry.network.shape.nodes && (not (v == self.entry.loss) && not (has set.words v)) }
+    {
+        let others = NodeSet::full(self.network.shape.nodes).minus(set);
+        if self.loss < 256 {
+            others.without(self.loss)
+        } else {
+            others
         }
     }
-}
 
-// The lowest node that c cuts off, or 256. The unreached are counted, and most often there is none.
-fn missed(ends: &[u16], h: Shape, c: usize) -> usize
-    requires { Filled h ends.now }
-    ensures { missed (graph_in h ends.now) c ≡ found_at result }
-{
-    let out = others(h.nodes, reach(ends, h, c), c);
-    if nodeset::count(out) == 0 {
-        return NO_NODE;
+    // The nodes that have a way to the source. Marks spread from the source, by passes that go up
+    // the list and down it by turns, until one adds nothing or no node is left to add.
+    fn reach(self) -> NodeSet
+        ensures { (v : ℕ) → has result.words v ≡ has_way (graph self.entry.network) self.entry.loss v }
+    {
+        let mut set = NodeSet::empty().with(self.network.shape.source);
+        let mut up = true;
+        while let Some(grown) = self.pass(up, set) {
+            set = grown;
+            up = !up;
+            if self.others(set).count() == 0 {
+                return set;
+            }
+        }
+        set
     }
-    nodeset::lowest(out)
-}
 
-// The same of a loss. (The source is none.)
-fn missed_by(ends: &[u16], h: Shape, c: usize) -> usize
-    requires { Filled h ends.now }
-    ensures { missed_by (graph_in h ends.now) c ≡ found_at result }
-{
-    if c == h.source {
-        return NO_NODE;
+    // The lowest node that is cut off.
+    fn missed(self) -> Option<usize>
+        ensures { result ≡ missed (graph self.entry.network) self.entry.loss }
+    {
+        self.others(self.reach()).lowest()
     }
-    missed(ends, h, c)
+
+    // The same by a loss. (The source is none.)
+    fn missed_by(self) -> Option<usize>
+        ensures { result ≡ missed_by (graph self.entry.network) self.entry.loss }
+    {
+        if self.loss == self.network.shape.source {
+            return None;
+        }
+        self.missed()
+    }
 }
 
 // The lowest of the k losses with codes from `base` on that cuts a node off: they are tried upwards.
-fn first_cut(ends: &[u16], h: Shape, base: usize, k: usize) -> Cut
-    requires { Filled h ends.now × (base + k ≤ 1280) }
-    ensures { (number : ℕ) → cutter (graph_in h ends.now) number k (λ i. not (eqb (base + i) h.source)) (λ i. base + i) ≡ cut_by number result }
+fn first_cut(network: Network, base: usize, k: usize) -> Option<Cut>
+    requires { base + k ≤ 1280 }
+    ensures { (number : ℕ) → cutter (graph network.entry) number k (λ i. not (base + i == network.entry.shape.source)) (λ i. base + i) ≡ cut_by number result }
 {
-    let mut i: usize = 0;
-    while i < k {
-        let place = turn(true, k, i);
-        let v = missed_by(ends, h, base + place);
-        if v < NO_NODE {
-            return Cut {
-                place: place,
-                node: v,
-            };
+    for place in 0..k {
+        let without = Without {
+            network,
+            loss: base + place,
+        };
+        if let Some(node) = without.missed_by() {
+            return Some(Cut { place, node });
         }
-        i += 1;
     }
-    Cut {
-        place: 0,
-        node: NO_NODE,
-    }
+    None
 }
 
-// 10; then 11, under node protection alone; then 12.
-pub fn refusal(p: u64, ends: &[u16], h: Shape) -> Answer
-    requires { Filled h ends.now }
-    ensures { result ≡ cut_answer (refusal p (graph_in h ends.now)) }
+/// 10; then 11, under node protection alone; then 12. (The protection p is a number, since the laws of
+/// it hold of every number: 0 is node protection, any other link protection.)
+pub fn refusal(p: u64, network: Network) -> Result<(), CutOff>
+    ensures { refused result ≡ refusal p (graph network.entry) }
 {
-    let v = missed(ends, h, NO_LOSS);
-    if v < NO_NODE {
-        return reader::refuse(10, v, 0);
+    let whole = Without {
+        network,
+        loss: NO_LOSS,
+    };
+    if let Some(node) = whole.missed() {
+        return Err(CutOff::Unjoined { node });
     }
     let asked = p == 0;
     if asked {
-        let cut = first_cut(ends, h, 0, h.nodes);
-        if cut.node < NO_NODE {
-            return reader::refuse(11, cut.place, cut.node);
+        if let Some(cut) = first_cut(network, 0, network.shape.nodes) {
+            return Err(CutOff::ByNode(cut));
         }
     }
-    let cut = first_cut(ends, h, 256, h.links);
-    if cut.node < NO_NODE {
-        return reader::refuse(12, cut.place, cut.node);
+    if let Some(cut) = first_cut(network, 256, network.shape.links) {
+        return Err(CutOff::ByLink(cut));
     }
-    reader::pass()
+    Ok(())
 }

@@ -1,5 +1,4 @@
 -- Trees and their chains.
---     Colour                    blue or red
 --     colour_of k               the colour that a number stands for: 0 blue, else red
 --     Trees                     tree colour v is v's parent link in that colour
 --     trees_of b r              the trees whose blue and red parent links are two lists
@@ -11,24 +10,23 @@
 --     walk G tree colour k v    v's chain as far as k hops go, computed
 --     chain_of G tree colour v  v's chain, computed: no chain needs more hops than nodes
 -- Assumes nothing.
-use Rattle.std.specs.Prelude.{◌≡◌, ◌≢◌, cond, List, [], ◌∷◌, ℕ, zero, suc, ◌<◌, eqb, get_or}
+use Rattle.std.specs.Prelude.{◌≡◌, ◌≢◌, List, [], ◌∷◌, ℕ, zero, suc, ◌<◌, ◌==◌, slice_index, if◌then◌else◌}
+use Rattle.network.specs.declared.Colour.{Colour}
+use Rattle.network.specs.declared.Colour.TheVariants.{Blue, Red}
 use Rattle.network.specs.Set.{◌∈◌}
 use Rattle.network.specs.Graph.{Graph, Joins, other, link_code}
 
-pub data Colour : Type 0 where
-  blue red : Colour
-
 abbrev pub colour_of : ℕ → Colour
-colour_of zero = blue
-colour_of (suc k) = red
+colour_of zero = Blue
+colour_of (suc k) = Red
 
 -- (What a tree gives the source is never read.)
 abbrev pub Trees : Type 0
 Trees = Colour → ℕ → ℕ
 
 abbrev pub trees_of : List ℕ → List ℕ → Trees
-trees_of b r blue v = get_or b v 0
-trees_of b r red v = get_or r v 0
+trees_of b r Blue v = slice_index b v
+trees_of b r Red v = slice_index r v
 
 infix 4 ◌names◌
 abbrev pub ◌names◌ : List ℕ → ℕ → Type 0
@@ -54,7 +52,7 @@ module _ (G : Graph) (tree : Trees) (colour : Colour) where
   walk (suc hops) v =
       let l = tree colour v in
       let rest = walk hops (other G l v) in
-      cond (eqb v G.source) (v ∷ []) (v ∷ link_code l ∷ rest)
+      if v == G.source then v ∷ [] else v ∷ link_code l ∷ rest
 
   unfoldable pub chain_of : ℕ → List ℕ
   chain_of v = walk G.nodes v

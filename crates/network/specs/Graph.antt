@@ -11,7 +11,7 @@
 --     no_loss              the lowest code that names nothing
 --     IsLoss p G c         c is the code of a loss under protection p (0 node, else link)
 -- Assumes nothing.
-use Rattle.std.specs.Prelude.{◌≡◌, ◌≢◌, Bool, ◌||◌, cond, List, ℕ, ◌+◌, ◌*◌, ◌≤◌, ◌<◌, eqb, get_or}
+use Rattle.std.specs.Prelude.{◌≡◌, ◌≢◌, Bool, ◌||◌, List, ℕ, ◌+◌, ◌*◌, ◌≤◌, ◌<◌, ◌==◌, slice_index, if◌then◌else◌}
 
 -- Nodes are the numbers below `nodes`, links those below `links`. Links may be parallel.
 pub record Graph : Type 0 where
@@ -30,10 +30,10 @@ pub record WellFormed (G : Graph) : Type 0 where
   pub no_loop : (l : ℕ) → l < G.links → G.near l ≢ G.far l
 
 abbrev pub near_end : List ℕ → ℕ → ℕ
-near_end ends l = get_or ends (2 * l) 0
+near_end ends l = slice_index ends (2 * l)
 
 abbrev pub far_end : List ℕ → ℕ → ℕ
-far_end ends l = get_or ends (2 * l + 1) 0
+far_end ends l = slice_index ends (2 * l + 1)
 
 abbrev pub graph_of : (n s m : ℕ) → List ℕ → Graph
 graph_of n s m ends = record {
@@ -49,10 +49,10 @@ pub data Joins (G : Graph) (l v w : ℕ) : Type 0 where
   back : l < G.links → G.near l ≡ w → G.far l ≡ v → Joins G l v w
 
 unfoldable pub touches : Graph → ℕ → ℕ → Bool
-touches G l v = eqb (G.near l) v || eqb (G.far l) v
+touches G l v = G.near l == v || G.far l == v
 
 abbrev pub across : (a b v : ℕ) → ℕ
-across a b v = cond (eqb a v) b a
+across a b v = if a == v then b else a
 
 unfoldable pub other : Graph → ℕ → ℕ → ℕ
 other G l v = across (G.near l) (G.far l) v

@@ -3,17 +3,10 @@
 --     set_only         so at most one NodeSet holds what a contract says, E k of each node k
 --     counted_only     at most one r is `Counted`; lowest_only: or `Lowest`
 -- Assumes nothing.
-use mathlib.Core.Bool.{Bool, true≢false}
-use mathlib.Core.List.{List}
-use mathlib.Core.Path.{◌≡◌, sym, ap, ◌∙◌}
-use Prim.Native.Nat.{ℕ, ◌+◌, ◌*◌, ◌<◌}
-use native.Mathlib.Decide.{dec_lt}
-use native.Mathlib.Omega.{arith}
-use lib.ListN.{length, get_or}
-use lib.Seq.{ext_get_or}
-use mir.Syntax.{w64}
-use mir.Val.{Fits}
-use Rattle.nodeset.specs.Set.{has, Counted, Lowest}
+use Rattle.std.proofs.Common.{Bool, true≢false, List, ◌≡◌, refl, sym, ap, ◌∙◌, ℕ, ◌+◌, ◌*◌, ◌<◌, arith, length, get_or, ext_get_or, w64, Fits}
+use Rattle.std.proofs.Math.Decide.{dec_lt}
+use Rattle.std.specs.Prelude.{Option, Some}
+use Rattle.nodeset.specs.Set.{has, Counted, Lowest, none, at}
 use Rattle.nodeset.specs.declared.NodeSet.{NodeSet}
 use Rattle.nodeset.proofs.Bit.{bits_only}
 use Rattle.nodeset.proofs.Words.{has_at}
@@ -37,13 +30,14 @@ set_only E r s four four' fits fits' e e' =
 pub counted_only : (ws : List ℕ) (r s : ℕ) → Counted ws r → Counted ws s → r ≡ s
 counted_only ws r s c d = c.exact ∙ sym d.exact
 
-pub lowest_only : (ws : List ℕ) (r s : ℕ) → Lowest ws r → Lowest ws s → r ≡ s
-lowest_only ws r s c d = go (dec_lt r s) (dec_lt s r)
+pub lowest_only : (ws : List ℕ) (r s : Option ℕ) → Lowest ws r → Lowest ws s → r ≡ s
+lowest_only ws r s (none _) (none _) = refl
+lowest_only ws r s (none f) (at {r = j} l t _) = absurd (true≢false (sym t ∙ f j l))
+lowest_only ws r s (at {r = i} l t _) (none f) = absurd (true≢false (sym t ∙ f i l))
+lowest_only ws r s (at {r = i} _ t f) (at {r = j} _ u g) =
+    ap Some (go (dec_lt i j) (dec_lt j i))
   where
-    never : (i j : ℕ) → i < j → Lowest ws i → Lowest ws j → ⊥
-    never i j h a b = true≢false (sym (a.member (omega arith)) ∙ b.none_below i h)
-
-    go : Dec (r < s) → Dec (s < r) → r ≡ s
-    go (yes h) q = absurd (never r s h c d)
-    go (no f) (yes h) = absurd (never s r h d c)
-    go (no f) (no g) = omega arith
+    go : Dec (i < j) → Dec (j < i) → i ≡ j
+    go (yes h) q = absurd (true≢false (sym t ∙ g i h))
+    go (no p) (yes h) = absurd (true≢false (sym u ∙ f j h))
+    go (no p) (no q) = omega arith

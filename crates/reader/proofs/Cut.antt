@@ -4,19 +4,13 @@
 --     go_cut          past n records, and n above 1,280, nothing is read
 --     reading_cut     a table of more than 10,240 bytes is refused as its first 10,248 bytes are
 -- Assumes nothing.
-use mathlib.Core.Path.{◌≡◌, refl, sym, ◌∙◌}
-use mathlib.Core.List.{List}
-use Prim.Native.Nat.{ℕ, zero, suc, ◌+◌, ◌*◌, ◌-◌, ◌/◌, ◌%◌, ◌≤◌, ◌<◌}
-use native.Mathlib.Nat.{suc-add}
-use native.Mathlib.Omega.{arith}
-use borrow.Author.Tests.{eq-eqb, ne_eqb}
-use lib.ListN.{length, take, get_or}
-use lib.Seq.{get_or-take, length-take-le}
+use Rattle.std.proofs.Common.{◌≡◌, refl, sym, ◌∙◌, List, ℕ, zero, suc, ◌+◌, ◌*◌, ◌-◌, ◌/◌, ◌%◌, ◌≤◌, ◌<◌, suc-add, arith, length, take, get_or, get_or-take, length-take-le}
+use Rattle.std.specs.Prelude.{Result, Ok, Err}
+use Rattle.std.proofs.lemmas.Bool.Decides.{nat_tests}
 use Rattle.records.specs.Bytes.{two_of, kind_of, bad_tail, bad_node, bad_link}
 use Rattle.records.proofs.Bytes.{two_at}
-use Rattle.reader.specs.declared.Shape.{Shape}
-use Rattle.reader.specs.declared.Reading.{Reading}
-use Rattle.reader.specs.declared.Reading.TheVariants.{Table, Refused}
+use Rattle.reader.specs.declared.Tally.{Tally}
+use Rattle.reader.specs.declared.Refusal.{Refusal}
 use Rattle.reader.specs.Table.{place_of, refuse_if, node_of, link_of, record_of, onward, go_on}
 use Rattle.reader.specs.Table.{start, read_of}
 use Rattle.reader.proofs.Passed.{next_place}
@@ -48,7 +42,7 @@ module _ (s : List ℕ) (n : ℕ) where
     unfolding bad_link
     bad_link_cut = rw (byte_cut 1 (omega arith), tail_cut)
 
-  module _ (h : Shape) (b : place_of h < n) where
+  module _ (h : Tally) (b : place_of h < n) where
     node_cut : node_of (take (8 * n) s) h ≡ node_of s h
     unfolding node_of
     node_cut =
@@ -71,18 +65,18 @@ module _ (s : List ℕ) (n : ℕ) where
     unfolding record_of
     record_cut = rw (kind_cut (place_of h) b, node_cut, link_cut)
 
-  -- One record, and what the rest gives from each shape.
-  next : (j more : ℕ) (h : Shape) → Sound s h → ((f : Shape) → Sound s f
+  -- One record, and what the rest gives from each tally.
+  next : (j more : ℕ) (h : Tally) → Sound s h → ((f : Tally) → Sound s f
       → place_of f ≡ place_of h + 1 → go_on (take (8 * n) s) j f ≡ go_on s (j + more) f)
-      → (r : Reading) → record_of s h ≡ r
+      → (r : Result Tally Refusal) → record_of s h ≡ r
       → onward r (go_on (take (8 * n) s) j) ≡ onward r (go_on s (j + more))
-  next j more h k rest (Table f) q = rest f (sound_record s h f k q) (next_place s h f q)
-  next j more h k rest (Refused a) q = refl
+  next j more h k rest (Ok f) q = rest f (sound_record s h f k q) (next_place s h f q)
+  next j more h k rest (Err a) q = refl
 
-  go_cut : 1280 < n → (j more : ℕ) (h : Shape) → Sound s h → place_of h + j ≡ n
+  go_cut : 1280 < n → (j more : ℕ) (h : Tally) → Sound s h → place_of h + j ≡ n
       → go_on (take (8 * n) s) j h ≡ go_on s (j + more) h
   unfolding go_on
-  go_cut big zero more h k e = absurd (let f = k.few in let m = k.most in omega arith)
+  go_cut big zero more h k e = absurd (omega arith)
   go_cut big (suc j) more h k e =
       rw (suc-add, record_cut h (omega arith))
       (next j more h k (λ f kf p. go_cut big j more f kf (omega arith)) (record_of s h) refl)
@@ -91,10 +85,9 @@ module _ (s : List ℕ) (n : ℕ) where
 read_whole : (s : List ℕ) (n : ℕ) → length s ≡ 8 * n → 0 < n → read_of s ≡ go_on s n start
 unfolding read_of refuse_if
 read_whole s n long some =
-    let one : length s ≡ 0 → ⊥ = λ z. omega arith in
     let whole : length s % 8 ≡ 0 = omega arith in
     let count : length s / 8 ≡ n = omega arith in
-    simp (ne_eqb (length s) 0 one, eq-eqb (length s % 8) 0 whole, count)
+    grind (arith, nat_tests)
 
 read_cut : (s : List ℕ) (n : ℕ) → 1280 < n → 8 * n ≤ length s → length s % 8 ≡ 0
     → read_of (take (8 * n) s) ≡ read_of s

@@ -2,36 +2,19 @@
 --     length_ends            two numbers a link
 --     ends_near, ends_far    the two ends of link l are those of its record
 --     ends_near_more, ends_far_more     also with any list behind
---     Fills s n m old ends l     the loop's invariant: l of m links stand in ends
 --     ends_more              one link more: two stores
 --     filled_fits            where the shape and both lists fit, the start is filled
 --     length_filled          a buffer that is filled is as long as it was
 --     fill_is                the part for the ends of a table that is read holds them
 -- Assumes nothing.
-use mathlib.Core.Path.{◌≡◌, refl, sym, subst, ◌∙◌}
-use mathlib.Core.Bool.{true, ◌&&◌}
-use mathlib.Core.Logic.{⊎_elim}
-use mathlib.Core.List.{List, [], ◌∷◌, ◌++◌, append_assoc, append-nil}
-use Prim.Native.Nat.{ℕ, zero, suc, ◌+◌, ◌*◌, ◌≤◌, ◌<◌}
-use native.Mathlib.Nat.{le_of_suc-le-suc, not-suc-le-zero, eq-or-lt_of_le}
-use native.Mathlib.Numerals.{add-one}
-use native.Mathlib.Omega.{arith}
-use borrow.Author.Tests.{le-leb, leb-true}
-use lib.Dec.{leb}
-use lib.ListN.{length, set, take, drop, get_or, length-append, length-drop}
-use lib.Seq.{sets-eq, take_at, drop_at, drop-drop, get_or-append-add}
+use Rattle.std.proofs.Common.{◌≡◌, refl, ◌∙◌, true, List, [], ◌∷◌, ◌++◌, append_assoc, append-nil, ℕ, zero, suc, ◌+◌, ◌*◌, ◌≤◌, ◌<◌, not-suc-le-zero, add-one, arith, below_more, length, set, take, drop, get_or, length-append, length-drop, take_at, drop_at, drop-drop, get_or-append-add}
+use Rattle.std.proofs.Math.Seq.{sets-eq}
+use Rattle.std.proofs.lemmas.Bool.Decides.{nat_tests}
+use Rattle.std.proofs.lemmas.Grind.{common_steps}
 use Rattle.network.specs.Graph.{near_end, far_end}
-use Rattle.network.proofs.Tests.{test, both}
 use Rattle.records.specs.Bytes.{one_end, other_end}
 use Rattle.reader.specs.declared.Shape.{Shape}
-use Rattle.reader.specs.Table.{place_of}
 use Rattle.reader.specs.Ends.{ends_up_to, ends_of, fits, filled_of, Told}
-
-pub record Fills (s : List ℕ) (n m : ℕ) (old ends : List ℕ) (l : ℕ) : Type 0 where
-  pub within : l ≤ m
-  pub same : length ends ≡ length old
-  -- the ends of the first l links, and the rest as it was
-  pub holds : ends ≡ ends_up_to s n l ++ drop (2 * l) old
 
 module _ (s : List ℕ) (n : ℕ) where
   -- The two ends of link l.
@@ -65,23 +48,19 @@ module _ (s : List ℕ) (n : ℕ) where
       let size = length_up_to m in
       rw (← size) (get_or-append-add (ends_up_to s n m) (pair m ++ rest) k 0)
 
-  -- What stands at 2 l and 2 l + 1.
-  ends_at : (rest : List ℕ) (m l : ℕ) → l < m
-      → (get_or (ends_up_to s n m ++ rest) (2 * l + 0) 0 ≡ one_end s (n + l))
-      × (get_or (ends_up_to s n m ++ rest) (2 * l + 1) 0 ≡ other_end s (n + l))
+  -- The ends of link l stand at 2 l and 2 l + 1.
+  abbrev Stand : List ℕ → ℕ → Type 0
+  Stand ends l =
+      (get_or ends (2 * l + 0) 0 ≡ one_end s (n + l))
+      × (get_or ends (2 * l + 1) 0 ≡ other_end s (n + l))
+
+  ends_at : (rest : List ℕ) (m l : ℕ) → l < m → Stand (ends_up_to s n m ++ rest) l
   unfolding ends_up_to
   ends_at rest zero l b = absurd (not-suc-le-zero b)
   ends_at rest (suc m) l b =
       rw append_assoc
-      (⊎_elim
-      (λ (q : l ≡ m).
-      subst
-      (λ (j : ℕ).
-      (get_or (ends_up_to s n m ++ (pair m ++ rest)) (2 * j + 0) 0 ≡ one_end s (n + j))
-      × (get_or (ends_up_to s n m ++ (pair m ++ rest)) (2 * j + 1) 0 ≡ other_end s (n + j)))
-      (sym q) (last_at rest m 0, last_at rest m 1))
-      (λ (h : l < m). ends_at (pair m ++ rest) m l h)
-      (eq-or-lt_of_le (le_of_suc-le-suc b)))
+      (below_more (Stand (ends_up_to s n m ++ (pair m ++ rest))) m (ends_at (pair m ++ rest) m)
+      (last_at rest m 0, last_at rest m 1) l (omega arith))
 
 module _ (s : List ℕ) (h : Shape) where
   pub length_ends : length (ends_of s h) ≡ 2 * h.links
@@ -108,29 +87,17 @@ module _ (s : List ℕ) (h : Shape) where
   -- What the tests of `fill` ask.
   fits_room : (old : List ℕ) → fits s h old ≡ true → 2 * h.links ≤ length old
   unfolding fits
-  fits_room old t =
-      let room = leb (2 * h.links) (length old) in
-      let records = leb (8 * place_of h) (length s) in
-      let links = leb h.links 1024 in
-      let past-nodes = (both (leb h.nodes 256) (links && (records && room)) t).1 in
-      let past-links = (both links (records && room) past-nodes).1 in
-      leb-true _ _ (both records room past-links).1
+  fits_room old t = grind (arith, nat_tests)
 
   pub filled_fits : (old : List ℕ) → h.nodes ≤ 256 → h.links ≤ 1024
-      → 8 * place_of h ≤ length s → 2 * h.links ≤ length old
+      → 8 * (h.nodes + h.links) ≤ length s → 2 * h.links ≤ length old
       → filled_of s h old ≡ ends_of s h ++ drop (2 * h.links) old
   unfolding filled_of fits
-  filled_fits old nodes links records room =
-      simp (le-leb _ _ nodes, le-leb _ _ links, le-leb _ _ records, le-leb _ _ room)
+  filled_fits old nodes links records room = grind (arith, nat_tests)
 
   pub length_filled : (old : List ℕ) → length (filled_of s h old) ≡ length old
   unfolding filled_of
-  length_filled old =
-      test (fits s h old)
-      (λ t.
-      let room = fits_room old t in
-      simp (t, length-append, length_ends, length-drop) (omega arith))
-      (λ f. rw f)
+  length_filled old = grind (arith, nat_tests, common_steps, length_ends, fits_room)
 
   pub fill_is : (old : List ℕ) → Told s h → 2 * h.links ≤ length old
       → take (2 * h.links) (filled_of s h old) ≡ ends_of s h

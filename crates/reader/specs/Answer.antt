@@ -3,15 +3,15 @@
 --     fine             success
 --     told o           the refusal that was found, or else success
 --     and_then a b     a refusal stays, else the next answer decides
---     answer_of r      document 01's number and values for each case of a reading
+--     refusing e       document 01's number and values for each refusal of a table
+--     answer_of r      the answer of a reading
 --     on_table r k     a refused table's answer, or what k answers for a table of that shape
 -- Assumes nothing.
-use Rattle.std.specs.Prelude.{cond, ℕ, eqb}
-use Rattle.network.specs.Search.{Found, got, nothing}
+use Rattle.std.specs.Prelude.{ℕ, Option, Some, None, Result, Ok, Err, ◌==◌, if◌then◌else◌}
 use Rattle.reader.specs.declared.Answer.{Answer}
 use Rattle.reader.specs.declared.Shape.{Shape}
-use Rattle.reader.specs.declared.Reading.{Reading}
-use Rattle.reader.specs.declared.Reading.TheVariants.{Table, Refused}
+use Rattle.reader.specs.declared.Refusal.{Refusal}
+use Rattle.reader.specs.declared.Refusal.TheVariants.{Length, Byte, Number, SecondSource, NoSource, End, SelfLink, TooManyLinks}
 
 abbrev pub answer : (number place other : ℕ) → Answer
 answer n p o = record { number = n; place = p; other = o }
@@ -19,17 +19,27 @@ answer n p o = record { number = n; place = p; other = o }
 abbrev pub fine : Answer
 fine = answer 0 0 0
 
-abbrev pub told : Found Answer → Answer
-told (got a) = a
-told nothing = fine
+abbrev pub told : Option Answer → Answer
+told (Some a) = a
+told None = fine
 
 abbrev pub and_then : Answer → Answer → Answer
-and_then a b = cond (eqb a.number 0) b a
+and_then a b = if a.number == 0 then b else a
 
-abbrev pub answer_of : Reading → Answer
-answer_of (Table h) = fine
-answer_of (Refused a) = a
+abbrev pub refusing : Refusal → Answer
+refusing (Length n) = answer 2 n 0
+refusing (Byte r k) = answer 3 r k
+refusing (Number r n) = answer 4 r n
+refusing (SecondSource r) = answer 5 r 0
+refusing (NoSource n) = answer 5 n 1
+refusing (End r v) = answer 6 r v
+refusing (SelfLink r v) = answer 7 r v
+refusing (TooManyLinks r) = answer 8 r 0
 
-abbrev pub on_table : Reading → (Shape → Answer) → Answer
-on_table (Table h) k = k h
-on_table (Refused a) k = a
+abbrev pub answer_of : Result Shape Refusal → Answer
+answer_of (Ok h) = fine
+answer_of (Err e) = refusing e
+
+abbrev pub on_table : Result Shape Refusal → (Shape → Answer) → Answer
+on_table (Ok h) k = k h
+on_table (Err e) k = refusing e

@@ -8,11 +8,10 @@
 --     Filled h ends        what the cores ask of a list of ends: room, and a well-formed graph
 --     Told s h             what a table says when it is read: its length, and each record's role
 -- Assumes nothing.
-use Rattle.std.specs.Prelude.{◌≡◌, ◌≢◌, Bool, ◌&&◌, cond, List, [], ◌∷◌, ◌++◌, ℕ, zero, suc, ◌+◌, ◌*◌, ◌≤◌, ◌<◌, leb, length, drop}
+use Rattle.std.specs.Prelude.{◌≡◌, ◌≢◌, Bool, ◌&&◌, List, [], ◌∷◌, ◌++◌, ℕ, zero, suc, ◌+◌, ◌*◌, ◌≤◌, ◌<◌, length, drop, nat_le, if◌then◌else◌}
 use Rattle.network.specs.Graph.{Graph, WellFormed, graph_of}
 use Rattle.records.specs.Bytes.{role_of, one_end, other_end}
 use Rattle.reader.specs.declared.Shape.{Shape}
-use Rattle.reader.specs.Table.{place_of}
 
 unfoldable pub ends_up_to : List ℕ → (n m : ℕ) → List ℕ
 ends_up_to s n zero = []
@@ -23,11 +22,11 @@ ends_of s h = ends_up_to s h.nodes h.links
 
 unfoldable pub fits : List ℕ → Shape → List ℕ → Bool
 fits s h old =
-    leb h.nodes 256 && (leb h.links 1024
-    && (leb (8 * place_of h) (length s) && leb (2 * h.links) (length old)))
+    nat_le h.nodes 256 && (nat_le h.links 1024
+    && (nat_le (8 * (h.nodes + h.links)) (length s) && nat_le (2 * h.links) (length old)))
 
 unfoldable pub filled_of : List ℕ → Shape → List ℕ → List ℕ
-filled_of s h old = cond (fits s h old) (ends_of s h ++ drop (2 * h.links) old) old
+filled_of s h old = if fits s h old then ends_of s h ++ drop (2 * h.links) old else old
 
 abbrev pub graph_in : Shape → List ℕ → Graph
 graph_in h ends = graph_of h.nodes h.source h.links ends
@@ -40,7 +39,7 @@ pub record Filled (h : Shape) (ends : List ℕ) : Type 0 where
   pub room : 2 * h.links ≤ length ends
 
 pub record Told (s : List ℕ) (h : Shape) : Type 0 where
-  pub long : length s ≡ 8 * place_of h
+  pub long : length s ≡ 8 * (h.nodes + h.links)
   pub graph : Filled h (ends_of s h)
   pub source : role_of s h.source ≡ 1
   pub others : (v : ℕ) → v < h.nodes → v ≢ h.source → role_of s v ≡ 0

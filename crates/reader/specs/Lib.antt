@@ -2,3 +2,4 @@
 pub mod Answer
 pub mod Table
 pub mod Ends
+pub mod Network

@@ -3,13 +3,8 @@
 --     two_at          it reads its two bytes alone
 --     get_or-sets     bytes outside of a run of stores stay
 -- Assumes nothing.
-use mathlib.Core.Path.{◌≡◌, refl, ◌∙◌}
-use mathlib.Core.Logic.{◌⊎◌, ⊎_elim, inl, inr}
-use mathlib.Core.List.{List, [], ◌∷◌}
-use Prim.Native.Nat.{ℕ, suc, ◌+◌, ◌≤◌, ◌<◌}
-use native.Mathlib.Omega.{arith}
-use lib.ListN.{length, get_or}
-use lib.Seq.{sets, get_or-set_other}
+use Rattle.std.proofs.Common.{◌≡◌, refl, ◌∙◌, ◌⊎◌, ⊎_elim, inl, inr, List, [], ◌∷◌, ℕ, suc, ◌+◌, ◌≤◌, ◌<◌, arith, length, get_or, get_or-set_other}
+use Rattle.std.proofs.Math.Seq.{sets}
 use Rattle.records.specs.Bytes.{two_of}
 
 pub two_fits : (s : List ℕ) → ((k : ℕ) → get_or s k 0 < 256) → (i : ℕ) → two_of s i < 65536

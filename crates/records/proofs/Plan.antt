@@ -1,9 +1,7 @@
 -- Laws of plans.
 --     length_record     a record has 8 bytes
 --     length_plan       a plan of n nodes has n records
---     colour_red        a number other than 0 stands for red
---     record_stores     eight stores in a row put a record
---     Puts kind n tree plan₀ plan v     the loop's invariant: v of n records stand in plan
+--     record_put        a copy into the middle of a list is a run of stores
 --     plan_more         one record more
 --     plan_at           what stands at offset k of v's record
 --     plan_read         what is written is read back: a parent link, and
@@ -11,18 +9,13 @@
 --     plan_agree        trees that agree below n have the same plan
 --     entry_put         putting a record leaves the other nodes' parent links
 -- Assumes nothing.
-use mathlib.Core.Path.{◌≡◌, refl, sym, subst, ◌∙◌}
-use mathlib.Core.Logic.{◌≢◌, ◌⊎◌, ⊎_elim, inl, inr}
-use mathlib.Core.List.{List, [], ◌∷◌, ◌++◌, append_assoc}
-use Prim.Native.Nat.{ℕ, zero, suc, ◌+◌, ◌*◌, ◌≤◌, ◌<◌}
-use native.Mathlib.Nat.{le_of_suc-le-suc, not-suc-le-zero, eq-or-lt_of_le}
-use native.Mathlib.Numerals.{add-one}
-use native.Mathlib.Omega.{arith}
-use borrow.Author.Tests.{ltb-true, ltb-false, eq-eqb}
-use lib.Dec.{ltb}
-use lib.ListN.{length, set, drop, get_or, length-append, length-drop, get_or-append}
-use lib.Seq.{sets, sets-eq, take_at, drop_at, drop-drop, get_or-append-add}
-use Rattle.network.specs.Chain.{Colour, blue, red, colour_of, Trees}
+use Rattle.std.proofs.Common.{◌≡◌, refl, sym, subst, ◌∙◌, ◌≢◌, ◌⊎◌, ⊎_elim, inl, inr, List, ◌++◌, append_assoc, ℕ, zero, suc, ◌+◌, ◌*◌, ◌≤◌, ◌<◌, le_of_suc-le-suc, not-suc-le-zero, eq-or-lt_of_le, add-one, arith, ltb-true, ltb-false, eq-eqb, ltb, length, take, drop, get_or, length-append, length-drop, take_at, drop_at, drop-drop, get_or-append-add}
+use Rattle.std.proofs.Math.ListN.{get_or-append}
+use Rattle.std.proofs.Math.Seq.{sets, sets-eq}
+use Rattle.std.specs.Prelude.{None}
+use Rattle.network.specs.declared.Colour.{Colour}
+use Rattle.network.specs.declared.Colour.TheVariants.{Blue, Red}
+use Rattle.network.specs.Chain.{Trees}
 use Rattle.network.proofs.Tests.{test}
 use Rattle.records.specs.Bytes.{two_of}
 use Rattle.records.specs.Plan.{size_of, offset_of, entry_of, bad_plan, record_of, plan_bytes}
@@ -38,39 +31,20 @@ length_plan kind zero tree = refl
 length_plan kind (suc n) tree =
     simp (length-append, length_plan kind n tree, length_record) (omega arith)
 
-pub colour_red : (k : ℕ) → k ≢ 0 → colour_of k ≡ red
-colour_red zero n = absurd (n refl)
-colour_red (suc k) n = refl
-
 small : (colour : Colour) → offset_of colour < 7
-small blue = omega arith
-small red = omega arith
+small Blue = omega arith
+small Red = omega arith
 
--- The code's at + 1, at + 2, .. are the list's next places.
-pub record_stores : (s : List ℕ) (at a b c d e f g h : ℕ)
-    → set (set (set (set (set (set (set (set s at a) (at + 1) b) (at + 2) c) (at + 3) d)
-    (at + 4) e) (at + 5) f) (at + 6) g) (at + 7) h
-    ≡ sets s at (a ∷ b ∷ c ∷ d ∷ e ∷ f ∷ g ∷ h ∷ [])
-record_stores s at a b c d e f g h =
-    let e1 : at + 1 ≡ suc at = omega arith in
-    let e2 : at + 2 ≡ suc (suc at) = omega arith in
-    let e3 : at + 3 ≡ suc (suc (suc at)) = omega arith in
-    let e4 : at + 4 ≡ suc (suc (suc (suc at))) = omega arith in
-    let e5 : at + 5 ≡ suc (suc (suc (suc (suc at)))) = omega arith in
-    let e6 : at + 6 ≡ suc (suc (suc (suc (suc (suc at))))) = omega arith in
-    let e7 : at + 7 ≡ suc (suc (suc (suc (suc (suc (suc at)))))) = omega arith in
-    rw (e1, e2, e3, e4, e5, e6, e7) refl
-
-pub record Puts (kind n : ℕ) (tree : Trees) (plan₀ plan : List ℕ) (v : ℕ) : Type 0 where
-  pub within : v ≤ n
-  pub same : length plan ≡ length plan₀
-  -- the first v records, and the rest as it was
-  pub holds : plan ≡ plan_bytes kind v tree ++ drop (8 * v) plan₀
+-- A run of stores, as a copy into the middle of a list leaves it.
+pub record_put : (s bytes : List ℕ) (at k : ℕ) → length bytes ≡ k → at + k ≤ length s
+    → take at s ++ (bytes ++ drop k (drop at s)) ≡ sets s at bytes
+record_put s bytes at k long fits =
+    rw (drop-drop, ← long) (sym (sets-eq bytes s at (omega arith) ∙ append_assoc (take at s) bytes _))
 
 module _ (kind : ℕ) (tree : Trees) where
   -- The bytes of v's record.
   abbrev bytes : ℕ → List ℕ
-  bytes v = record_of kind v (tree blue v) (tree red v)
+  bytes v = record_of kind v (tree Blue v) (tree Red v)
 
   pub plan_more : (plan₀ plan : List ℕ) (v : ℕ) → 8 * (v + 1) ≤ length plan₀
       → plan ≡ plan_bytes kind v tree ++ drop (8 * v) plan₀
@@ -120,8 +94,8 @@ module _ (kind : ℕ) (tree : Trees) where
 
   own : (v : ℕ) (colour : Colour) → two_of (bytes v) (offset_of colour) ≡ tree colour v
   unfolding two_of record_of
-  own v blue = omega arith
-  own v red = omega arith
+  own v Blue = omega arith
+  own v Red = omega arith
 
   numbered : (v : ℕ) → two_of (bytes v) 2 ≡ v
   unfolding two_of record_of
@@ -133,7 +107,7 @@ module _ (kind : ℕ) (tree : Trees) where
     unfolding entry_of
     plan_read colour = two_of_plan rest n v (offset_of colour) l (small colour) ∙ own v colour
 
-    pub plan_good : bad_plan kind (plan_bytes kind n tree ++ rest) v ≡ 8
+    pub plan_good : bad_plan kind (plan_bytes kind n tree ++ rest) v ≡ None
     unfolding bad_plan record_of
     plan_good =
         let first : 8 * v ≡ 8 * v + 0 = omega arith in
@@ -151,8 +125,8 @@ plan_agree kind zero t u same = refl
 plan_agree kind (suc n) t u same =
     rw (
       plan_agree kind n t u (λ colour v l. same colour v (omega arith)),
-      same blue n (omega arith),
-      same red n (omega arith),
+      same Blue n (omega arith),
+      same Red n (omega arith),
     )
 
 -- An offset of w's record is below v's record or above it.

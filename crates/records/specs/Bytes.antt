@@ -1,24 +1,38 @@
 -- What the bytes of a table hold. A record is 8 bytes; record r starts at byte 8 r.
 --     two_of s i       the two-byte number at byte i, low byte first
 --     kind_of s r      byte 0 of record r: 1 node, 2 link, 3 plan
+--     Decodes b o      o is the kind of a table's record that byte 0 stands for, or an error with b
 --     role_of s r      byte 1 of a node record: 1 if source, else 0
 --     number_of s r    the number of a node record
 --     one_end s r      one end of a link record; other_end: the other
+--     above k m        the offset k, where the byte there is above m
 --     bad_node s r     the offset of the lowest byte of a node record behind its kind that is
---                      neither a role nor a zero filler, 8 if there is none
+--                      neither a role nor a zero filler
 --     bad_link s r     the same of a link record
 -- Assumes nothing.
-use Rattle.std.specs.Prelude.{cond, List, ℕ, ◌+◌, ◌*◌, ltb, get_or}
+use Rattle.std.specs.Prelude.{◌≡◌, ◌≢◌, List, ℕ, ◌+◌, ◌*◌, Option, Some, Result, MatchResult, nat_lt, slice_index}
+use Rattle.std.specs.Option.{option_or}
+use Rattle.network.specs.Search.{when}
+use Rattle.records.specs.declared.Kind.{Kind}
+use Rattle.records.specs.declared.Kind.TheVariants.{Node, Link}
+use Rattle.records.specs.declared.UnknownKind.{UnknownKind}
 
 unfoldable pub two_of : List ℕ → ℕ → ℕ
-two_of s i = get_or s i 0 + 256 * get_or s (i + 1) 0
+two_of s i = slice_index s i + 256 * slice_index s (i + 1)
+
+abbrev pub code_of : Kind → ℕ
+code_of Node = 1
+code_of Link = 2
+
+abbrev pub Decodes : ℕ → Result Kind UnknownKind → Type 0
+Decodes b o = MatchResult o (λ kind. b ≡ code_of kind) (λ e. (e.0 ≡ b) × (b ≢ 1) × (b ≢ 2))
 
 module _ (s : List ℕ) (r : ℕ) where
   abbrev pub kind_of : ℕ
-  kind_of = get_or s (8 * r) 0
+  kind_of = slice_index s (8 * r)
 
   abbrev pub role_of : ℕ
-  role_of = get_or s (8 * r + 1) 0
+  role_of = slice_index s (8 * r + 1)
 
   abbrev pub number_of : ℕ
   number_of = two_of s (8 * r + 2)
@@ -29,15 +43,14 @@ module _ (s : List ℕ) (r : ℕ) where
   abbrev pub other_end : ℕ
   other_end = two_of s (8 * r + 4)
 
-  -- Offset k, where the byte there is above m, else what the later offsets give.
-  abbrev pub bad : (k m later : ℕ) → ℕ
-  bad k m later = cond (ltb m (get_or s (8 * r + k) 0)) k later
+  abbrev pub above : (k m : ℕ) → Option ℕ
+  above k m = when (nat_lt m (slice_index s (8 * r + k))) (Some k)
 
-  unfoldable pub bad_tail : ℕ
-  bad_tail = bad 6 0 (bad 7 0 8)
+  unfoldable pub bad_tail : Option ℕ
+  bad_tail = option_or (above 6 0) (above 7 0)
 
-  unfoldable pub bad_node : ℕ
-  bad_node = bad 1 1 (bad 4 0 (bad 5 0 bad_tail))
+  unfoldable pub bad_node : Option ℕ
+  bad_node = option_or (option_or (option_or (above 1 1) (above 4 0)) (above 5 0)) bad_tail
 
-  unfoldable pub bad_link : ℕ
-  bad_link = bad 1 0 bad_tail
+  unfoldable pub bad_link : Option ℕ
+  bad_link = option_or (above 1 0) bad_tail

@@ -1,17 +1,15 @@
--- The loss at the i-th place cuts a node off, and none before it does; or none does.
-use Rattle.std.proofs.Common.{arith}
-use Rattle.reader.specs.Ends.{graph_in}
+-- The loss at this place cuts a node off, and none before it does; or none does.
+use Rattle.std.proofs.Common.{sym, arith}
+use Rattle.reader.specs.Network.{graph}
 use Rattle.cuts.proofs.Cutting.{cut_at, cut_none}
 use Rattle.cuts.proofs.first_cut.Goals as goal
 
-pub returns-then-v-lt-NO_NODE : goal.returns-then-v-lt-NO_NODE
-returns-then-v-lt-NO_NODE c = λ number.
-    let place = c.turn-place in
-    cut_at (graph_in c.args.h c.args.ends.now) c.args.base c.args.k number place.result _
-    (omega (arith, place.ensures)) c.if-v-lt-NO_NODE.true c.missed_by-v.ensures
-    (λ j l. c.loop-i.invariant.1 j (omega (arith, place.ensures)))
+pub returns-in-Some : goal.returns-in-Some
+returns-in-Some c = λ number.
+    cut_at (graph c.args.network) c.args.base c.args.k number c.loop-place.place c.in-Some.node
+    c.loop-place-test.true (sym c.in-Some.ensures) c.loop-place.invariant
 
 pub returns : goal.returns
 returns c = λ number.
-    cut_none (graph_in c.args.h c.args.ends.now) c.args.base c.args.k number 0
-    (λ j l. c.loop-i.invariant.1 j (omega arith))
+    cut_none (graph c.args.network) c.args.base c.args.k number
+    (λ j l. c.loop-place.invariant j (omega arith))

@@ -1,12 +1,9 @@
--- The loop's invariant: the first v records stand, the rest is as it was.
--- Assumes nothing.
-use Rattle.std.proofs.Common.{◌-◌}
+-- The first v records stand, and the rest is as it was.
+use Rattle.std.proofs.Common.{◌≡◌, ◌*◌, ◌++◌, drop}
 use Rattle.network.specs.Chain.{trees_of}
-use Rattle.records.proofs.Plan.{Puts}
+use Rattle.records.specs.Plan.{plan_bytes}
 use Rattle.records.proofs.put_plan.Given as goal
 
 abbrev pub invariant-loop-v : goal.invariant-loop-v
-invariant-loop-v l = Puts l.kind l.n (trees_of l.blue l.red) l.fn.plan l.plan l.v
-
-abbrev pub decreases-loop-v : goal.decreases-loop-v
-decreases-loop-v l = l.n - l.v
+invariant-loop-v l =
+    l.plan ≡ plan_bytes l.kind l.v (trees_of l.blue l.red) ++ drop (8 * l.v) l.fn.plan
