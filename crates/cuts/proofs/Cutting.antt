@@ -4,6 +4,7 @@
 --                                  off
 --     may_cut                      the losses that are tried
 --     cut_at, cut_none             the lowest loss that cuts a node off, and that none does
+--     NodeCut x, LinkCut y         x and y are what 11 and 12 would name
 --     refused10, refused11, refused12, unrefused
 --                                  the refusal, by what a program has found
 --     Spare, spare_node, spare_link
@@ -27,7 +28,7 @@ use Rattle.reader.specs.declared.Answer.{Answer}
 use Rattle.reader.specs.Answer.{fine}
 use Rattle.cuts.specs.declared.Cut.{Cut}
 use Rattle.cuts.specs.declared.CutOff.{CutOff}
-use Rattle.cuts.specs.Cut.{missed_by, cut_by, told, refused, answer_to, cut_answer}
+use Rattle.cuts.specs.Cut.{missed_by, cut_by, refusal_of, refused, answer_to, cut_answer}
 
 pub others_lost : (v n c : ℕ) (b : Bool)
     → (not (eqb v c) && (ltb v n && not b)) ≡ (ltb v n && (not (eqb v c) && not b))
@@ -137,6 +138,6 @@ module _ (p : ℕ) (G : Graph) (ok : WellFormed G) where
 
 -- What `reader::answered` says of an outcome.
 pub answer_is : {A : Type 0} (o : Result A CutOff) (r : Option Refusal) (a : Answer)
-    → refused o ≡ r → MatchResult o (λ _. a ≡ fine) (λ e. a ≡ answer_to (told e)) → a ≡ cut_answer r
+    → refused o ≡ r → MatchResult o (λ _. a ≡ fine) (λ e. a ≡ answer_to (refusal_of e)) → a ≡ cut_answer r
 answer_is (Ok _) r a e q = q ∙ ap cut_answer e
 answer_is (Err _) r a e q = q ∙ ap cut_answer e

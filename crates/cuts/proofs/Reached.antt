@@ -5,10 +5,12 @@
 --     passed_none, passed_still, passed_more, passed_end
 --                                  a pass, link by link: at its start, by a link along which the
 --                                  set may not grow, by one along which it does, and at its end
---     marked_one                   the set of the source alone, at the start
---     marked_more                  a pass by which it grew
+--     Marked G c ws                the set holds the source, and each of its nodes has a way
+--     marked_one                   so does the source alone, at the start
+--     marked_more                  and the set after a pass by which it grew
 --     reached_all                  where a pass adds nothing, the set is who has a way
---     reached_full                 and so where it lacks no node but c
+--     NoOther                      the set lacks no node but c
+--     reached_full                 then too it is who has a way
 -- Assumes nothing.
 use Rattle.std.proofs.Common.{Bool, true, false, not, ◌&&◌, ◌||◌, cond, true≢false, ◌≡◌, refl, sym, ap, ◌∙◌, List, ℕ, ◌+◌, ◌-◌, ◌<◌, ◌≤◌, arith, eqb, ltb, below_none, below_more, eqb-true, eq-eqb, ne_eqb, lt-ltb}
 use Rattle.std.proofs.Math.Bool.{xor, beq, or-true}

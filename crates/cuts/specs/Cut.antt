@@ -1,7 +1,7 @@
 -- Refusals 10 to 12 as a program finds them.
 --     missed_by G c      the lowest node that the loss c cuts off; the source is no loss
 --     cut_by n o         the refusal n that a cut tells of, where there is one
---     told e             document 01's number and values for each case
+--     refusal_of e             document 01's number and values for each case
 --     refused o          the refusal of an outcome, where there is one
 --     answer_to r        the answer that gives a refusal: its number, place, other
 --     cut_answer o       the answer that gives a refusal, or else success
@@ -23,14 +23,14 @@ abbrev pub cut_by : ℕ → Option Cut → Option Refusal
 cut_by number (Some x) = refusing number x.place x.node
 cut_by number None = None
 
-abbrev pub told : CutOff → Refusal
-told (Unjoined v) = record { number = 10; place = v; other = 0 }
-told (ByNode x) = record { number = 11; place = x.place; other = x.node }
-told (ByLink x) = record { number = 12; place = x.place; other = x.node }
+abbrev pub refusal_of : CutOff → Refusal
+refusal_of (Unjoined v) = record { number = 10; place = v; other = 0 }
+refusal_of (ByNode x) = record { number = 11; place = x.place; other = x.node }
+refusal_of (ByLink x) = record { number = 12; place = x.place; other = x.node }
 
 abbrev pub refused : {A : Type 0} → Result A CutOff → Option Refusal
 refused (Ok a) = None
-refused (Err e) = Some (told e)
+refused (Err e) = Some (refusal_of e)
 
 abbrev pub answer_to : Refusal → Answer
 answer_to r = answer r.number r.place r.other

@@ -7,7 +7,7 @@ ghost use Rattle.choices.specs.Refuse.{missed, cutter, refusal};
 ghost use Rattle.nodeset.specs.Set.{has};
 ghost use Rattle.reader.specs.Network.{graph};
 ghost use Rattle.cuts.specs.Reached.{gain, turn, Passed};
-ghost use Rattle.cuts.specs.Cut.{missed_by, cut_by, told, refused, answer_to};
+ghost use Rattle.cuts.specs.Cut.{missed_by, cut_by, refusal_of, refused, answer_to};
 
 use nodeset::NodeSet;
 use reader::{Answer, Network};
@@ -34,7 +34,7 @@ pub enum CutOff {
 }
 
 impl From<CutOff> for Answer {
-    ghost from_gives = { λ cause answer. answer ≡ answer_to (told cause) };
+    ghost from_gives = { λ cause answer. answer ≡ answer_to (refusal_of cause) };
 
     fn from(cause: CutOff) -> Answer {
         match cause {
@@ -45,8 +45,10 @@ impl From<CutOff> for Answer {
     }
 }
 
-// The code of a loss that takes no part away. (A loss is a code and no enum, as in the definitions:
-// node k is k and link l is 256 + l, so that one law serves both.)
+// A loss is a code and no enum, as everywhere in this project: node k is k, link l is 256 + l, and
+// codes from 1,280 name nothing. So one law serves nodes and links.
+const FIRST_LINK: usize = 256;
+
 const NO_LOSS: usize = 1280;
 
 // The i-th of m numbers, up from 0 or down to it. (An iterator passed to `pass` would want clauses
@@ -76,7 +78,7 @@ impl<'a> Without<'a> {
         if near_in == set.has(far) {
             return None;
         }
-        if self.loss == 256 + l {
+        if self.loss == FIRST_LINK + l {
             return None;
         }
         let new = if near_in { far } else { near };
@@ -85,7 +87,8 @@ impl<'a> Without<'a> {
 
     // One pass over all links, up the list or down it: the set that it leaves, where it grew.
     fn pass(self, up: bool, set: NodeSet) -> Option<NodeSet>
-        ensures { Passed (graph self.entry.network) self.entry.loss up set.words self.entry.network.shape.links result }
+        ensures { Passed (graph self.entry.network) self.entry.loss up set.words
+            self.entry.network.shape.links result }
     {
         let links = self.network.shape.links;
         let mut grown = set;
@@ -99,10 +102,11 @@ impl<'a> Without<'a> {
 
     // The nodes that are neither in the set nor lost.
     fn others(self, set: NodeSet) -> NodeSet
-        ensures { (v : ℕ) → has result.words v ≡ nat_lt v self.entry.network.shape.nodes && (not (v == self.entry.loss) && not (has set.words v)) }
+        ensures { (v : ℕ) → has result.words v
+            ≡ nat_lt v self.entry.network.shape.nodes && (not (v == self.entry.loss) && not (has set.words v)) }
     {
         let others = NodeSet::full(self.network.shape.nodes).minus(set);
-        if self.loss < 256 {
+        if self.loss < FIRST_LINK {
             others.without(self.loss)
         } else {
             others
@@ -147,7 +151,8 @@ impl<'a> Without<'a> {
 // The lowest of the k losses with codes from `base` on that cuts a node off: they are tried upwards.
 fn first_cut(network: Network, base: usize, k: usize) -> Option<Cut>
     requires { base + k ≤ 1280 }
-    ensures { (number : ℕ) → cutter (graph network.entry) number k (λ i. not (base + i == network.entry.shape.source)) (λ i. base + i) ≡ cut_by number result }
+    ensures { (number : ℕ) → cutter (graph network.entry) number k
+        (λ i. not (base + i == network.entry.shape.source)) (λ i. base + i) ≡ cut_by number result }
 {
     for place in 0..k {
         let without = Without {
@@ -161,8 +166,8 @@ fn first_cut(network: Network, base: usize, k: usize) -> Option<Cut>
     None
 }
 
-/// 10; then 11, under node protection alone; then 12. (The protection p is a number, since the laws of
-/// it hold of every number: 0 is node protection, any other link protection.)
+/// 10; then 11, under node protection alone; then 12. (The protection p is a number, as everywhere in
+/// this project: the one test is whether it is 0, and the theorems hold of every number.)
 pub fn refusal(p: u64, network: Network) -> Result<(), CutOff>
     ensures { refused result ≡ refusal p (graph network.entry) }
 {
@@ -179,7 +184,7 @@ pub fn refusal(p: u64, network: Network) -> Result<(), CutOff>
             return Err(CutOff::ByNode(cut));
         }
     }
-    if let Some(cut) = first_cut(network, 256, network.shape.links) {
+    if let Some(cut) = first_cut(network, FIRST_LINK, network.shape.links) {
         return Err(CutOff::ByLink(cut));
     }
     Ok(())

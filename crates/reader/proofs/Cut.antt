@@ -1,7 +1,5 @@
 -- No table has more than 256 + 1,024 records, and the reader stops at the first fault, so more than
 -- the first 1,281 records of a table are never needed.
---     record_cut      a record of a table's start is that of the table
---     go_cut          past n records, and n above 1,280, nothing is read
 --     reading_cut     a table of more than 10,240 bytes is refused as its first 10,248 bytes are
 -- Assumes nothing.
 use Rattle.std.proofs.Common.{◌≡◌, refl, sym, ◌∙◌, List, ℕ, zero, suc, ◌+◌, ◌*◌, ◌-◌, ◌/◌, ◌%◌, ◌≤◌, ◌<◌, suc-add, arith, length, take, get_or, get_or-take, length-take-le}
@@ -10,7 +8,7 @@ use Rattle.std.proofs.lemmas.Bool.Decides.{nat_tests}
 use Rattle.records.specs.Bytes.{two_of, kind_of, bad_tail, bad_node, bad_link}
 use Rattle.records.proofs.Bytes.{two_at}
 use Rattle.reader.specs.declared.Tally.{Tally}
-use Rattle.reader.specs.declared.Refusal.{Refusal}
+use Rattle.reader.specs.declared.Fault.{Fault}
 use Rattle.reader.specs.Table.{place_of, refuse_if, node_of, link_of, record_of, onward, go_on}
 use Rattle.reader.specs.Table.{start, read_of}
 use Rattle.reader.proofs.Passed.{next_place}
@@ -68,7 +66,7 @@ module _ (s : List ℕ) (n : ℕ) where
   -- One record, and what the rest gives from each tally.
   next : (j more : ℕ) (h : Tally) → Sound s h → ((f : Tally) → Sound s f
       → place_of f ≡ place_of h + 1 → go_on (take (8 * n) s) j f ≡ go_on s (j + more) f)
-      → (r : Result Tally Refusal) → record_of s h ≡ r
+      → (r : Result Tally Fault) → record_of s h ≡ r
       → onward r (go_on (take (8 * n) s) j) ≡ onward r (go_on s (j + more))
   next j more h k rest (Ok f) q = rest f (sound_record s h f k q) (next_place s h f q)
   next j more h k rest (Err a) q = refl

@@ -9,7 +9,7 @@ use Rattle.std.specs.Prelude.{Option, Some, None, Ok, Err}
 use Rattle.std.proofs.lemmas.Bool.Decides.{nat_tests}
 use Rattle.records.specs.Bytes.{role_of, number_of, bad_node}
 use Rattle.reader.specs.declared.Tally.{Tally}
-use Rattle.reader.specs.declared.Refusal.TheVariants.{SecondSource}
+use Rattle.reader.specs.declared.Fault.TheVariants.{SecondSource}
 use Rattle.reader.specs.Table.{refuse_if, refuse_at, place_of, node_of}
 
 -- One node more, with a source.

@@ -7,3 +7,4 @@ pub mod Numbered
 pub mod Ends
 pub mod Told
 pub mod Cut
+pub mod Outcomes

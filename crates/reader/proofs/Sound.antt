@@ -1,5 +1,6 @@
 -- What holds of every tally that records were read into.
 --     Linked s n l     link l of a table of n nodes has two nodes as ends
+--     Plain s source v node v is the source or has the role 0
 --     Sound s h        of a tally: few nodes and links, each link's ends, each node's role
 --     sound_start      it holds at the start
 --     sound_record     and after every record that is not refused
@@ -12,7 +13,7 @@ use Rattle.std.specs.Prelude.{Option, Some, None, Result, Ok, Err}
 use Rattle.records.specs.Bytes.{role_of, one_end, other_end}
 use Rattle.reader.specs.declared.Shape.{Shape}
 use Rattle.reader.specs.declared.Tally.{Tally}
-use Rattle.reader.specs.declared.Refusal.{Refusal}
+use Rattle.reader.specs.declared.Fault.{Fault}
 use Rattle.reader.specs.Table.{place_of, record_of, end_of, onward, go_on, start}
 use Rattle.reader.proofs.Passed.{NodePassed, LinkPassed, record_passed, next_place}
 
@@ -114,7 +115,7 @@ end_whole n l None g e = cc
 -- One record, and what the rest gives from each tally.
 next : (s : List ℕ) (n : ℕ) (h : Tally) (g : Shape) → Sound s h
     → ((f : Tally) → Sound s f → go_on s n f ≡ Ok g → Ended s n f g)
-    → (r : Result Tally Refusal) → record_of s h ≡ r → onward r (go_on s n) ≡ Ok g
+    → (r : Result Tally Fault) → record_of s h ≡ r → onward r (go_on s n) ≡ Ok g
     → Ended s (suc n) h g
 next s n h g k rest (Ok f) q e =
     let z = rest f (sound_record s h f k q) e in

@@ -8,7 +8,7 @@
 use Rattle.std.proofs.Common.{◌≡◌, ap, List, ℕ, suc, ◌+◌, ◌-◌, ◌≤◌, ◌<◌, arith}
 use Rattle.std.specs.Prelude.{Result, Ok, Err}
 use Rattle.reader.specs.declared.Tally.{Tally}
-use Rattle.reader.specs.declared.Refusal.{Refusal}
+use Rattle.reader.specs.declared.Fault.{Fault}
 use Rattle.reader.specs.Table.{place_of, record_of, end_of, onward, go_on, read_of}
 use Rattle.reader.proofs.Passed.{next_place}
 
@@ -22,17 +22,17 @@ module _ (s : List ℕ) (n i : ℕ) (h : Tally) where
   one_less : i < n → n - i ≡ suc (n - (i + 1))
   one_less l = omega arith
 
-  turn : (r : Result Tally Refusal) → i < n → record_of s h ≡ r
+  turn : (r : Result Tally Fault) → i < n → record_of s h ≡ r
       → go_on s (n - i) h ≡ onward r (go_on s (n - (i + 1)))
   unfolding go_on
   turn r l e =
-      rw (one_less l) (ap (λ (r : Result Tally Refusal). onward r (go_on s (n - (i + 1)))) e)
+      rw (one_less l) (ap (λ (r : Result Tally Fault). onward r (go_on s (n - (i + 1)))) e)
 
   pub turn_next : (g : Tally) → i < n → record_of s h ≡ Ok g
       → go_on s (n - i) h ≡ go_on s (n - (i + 1)) g
   turn_next g l e = turn (Ok g) l e
 
-  pub turn_stop : (e : Refusal) → i < n → record_of s h ≡ Err e → go_on s (n - i) h ≡ Err e
+  pub turn_stop : (e : Fault) → i < n → record_of s h ≡ Err e → go_on s (n - i) h ≡ Err e
   turn_stop a l e = turn (Err a) l e
 
   pub turn_end : n ≤ i → go_on s (n - i) h ≡ end_of h

@@ -1,11 +1,13 @@
 -- What the bytes of a table hold. A record is 8 bytes; record r starts at byte 8 r.
 --     two_of s i       the two-byte number at byte i, low byte first
 --     kind_of s r      byte 0 of record r: 1 node, 2 link, 3 plan
+--     code_of kind     the byte 0 of a kind of table's record
 --     Decodes b o      o is the kind of a table's record that byte 0 stands for, or an error with b
 --     role_of s r      byte 1 of a node record: 1 if source, else 0
 --     number_of s r    the number of a node record
 --     one_end s r      one end of a link record; other_end: the other
 --     above k m        the offset k, where the byte there is above m
+--     bad_tail s r     the offset of the lower of the last two bytes that is not 0
 --     bad_node s r     the offset of the lowest byte of a node record behind its kind that is
 --                      neither a role nor a zero filler
 --     bad_link s r     the same of a link record

@@ -1,5 +1,6 @@
 -- What the bytes of a plan hold: one record a node, in order.
 --     size_of kind            how many bytes a record of a plan has, by its kind
+--     offset_of c             where the parent link in colour c stands in a record
 --     entry_of kind s v c     the parent link of node v in colour c
 --     bad_plan kind s v       the lowest of the offsets 0, 1 and 2 of v's record at which its kind,
 --                             its byte 1 or its node number is wrong

@@ -45,7 +45,7 @@ fn two_bytes(s: &[u8], at: usize) -> u16
     u16::from_le_bytes([s[at], s[at + 1]])
 }
 
-/// The same as an index.
+/// The two-byte number at byte `at`, low byte first, as an index with its bound.
 pub fn two(s: &[u8], at: usize) -> usize
     requires { at + 2 ≤ length s.now }
     ensures number { result ≡ two_of s.now at }
@@ -62,7 +62,8 @@ pub struct Link {
 }
 
 impl Link {
-    /// Link l of a list of ends, two numbers a link. (No other function takes such a list and a link.)
+    /// Link l of a list of ends, two numbers a link. (The list is lent, since there is no heap, and no
+    /// other function takes such a list and a link.)
     pub fn at(ends: &[u16], l: usize) -> Link
         requires { 2 * l + 1 < length ends.now }
         ensures near { result.near ≡ near_end ends.now l }
@@ -207,7 +208,8 @@ impl<'a> PlanRecord<'a> {
     /// The parent link of the node: a number is a colour too, 0 blue, any other red.
     #[tactic(auto, unfolding(crate::specs::Plan::entry_of))]
     pub fn entry<C: Into<Colour>>(self, colour: C) -> u16
-        ensures { (c : Colour) × C.converts colour c × (result ≡ entry_of self.entry.kind self.entry.plan.now self.entry.node c) }
+        ensures { (c : Colour) × C.converts colour c
+            × (result ≡ entry_of self.entry.kind self.entry.plan.now self.entry.node c) }
     {
         let offset = match colour.into() {
             Colour::Blue => 4,
@@ -235,7 +237,7 @@ impl<'a> PlanRecord<'a> {
     }
 }
 
-// The bytes of a node's record.
+// The bytes of a node's record. (The kind is a byte, as in `PlanRecord`.)
 #[tactic(auto, unfolding(crate::specs::Plan::record_of))]
 fn record_bytes(kind: u8, node: u16, blue: u16, red: u16) -> [u8; 8]
     ensures { result ≡ record_of kind node blue red }
@@ -255,8 +257,8 @@ fn record_bytes(kind: u8, node: u16, blue: u16, red: u16) -> [u8; 8]
     ]
 }
 
-/// Writes a node's record into a plan; nothing else changes. (A `PlanRecord` is lent to be read, and a
-/// second type to be written would serve these two functions alone.)
+/// Writes a node's record into a plan; nothing else changes. (The kind is a byte, as in `PlanRecord`.
+/// That is lent to be read, and a second type to be written would serve these two functions alone.)
 pub fn put_record(plan: &mut [u8], kind: u8, node: u16, blue: u16, red: u16)
     requires { size_of kind * node + size_of kind ≤ length plan.old }
     ensures { plan.new ≡ sets plan.old (size_of kind * node) (record_of kind node blue red) }
@@ -270,8 +272,10 @@ pub fn put_record(plan: &mut [u8], kind: u8, node: u16, blue: u16, red: u16)
 /// never comes.)
 #[tactic(auto, unfolding(crate::specs::Plan::plan_bytes))]
 pub fn put_plan(plan: &mut [u8], kind: u8, n: usize, blue: &[u16], red: &[u16])
-    requires { (n ≤ 256) × (n ≤ length blue.now) × (n ≤ length red.now) × (size_of kind * n ≤ length plan.old) }
-    ensures { plan.new ≡ plan_bytes kind n (trees_of blue.now red.now) ++ drop (size_of kind * n) plan.old }
+    requires { (n ≤ 256) × (n ≤ length blue.now) × (n ≤ length red.now)
+        × (size_of kind * n ≤ length plan.old) }
+    ensures { plan.new
+        ≡ plan_bytes kind n (trees_of blue.now red.now) ++ drop (size_of kind * n) plan.old }
 {
     for v in 0..n {
         put_record(plan, kind, v as u16, blue[v], red[v]);
