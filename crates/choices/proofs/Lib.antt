@@ -14,3 +14,4 @@ pub mod Rounds
 pub mod Choices
 pub mod Loop
 pub mod Places
+pub mod Small
