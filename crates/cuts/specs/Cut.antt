@@ -1,7 +1,7 @@
 -- Refusals 10 to 12 as a program finds them.
 --     missed_by G c      the lowest node that the loss c cuts off; the source is no loss
 --     cut_by n o         the refusal n that a cut tells of, where there is one
---     refusal_of e             document 01's number and values for each case
+--     refusal_of e       document 01's number and values for each case
 --     refused o          the refusal of an outcome, where there is one
 --     answer_to r        the answer that gives a refusal: its number, place, other
 --     cut_answer o       the answer that gives a refusal, or else success

@@ -1,6 +1,7 @@
 -- A table as a graph, and its losses.
 --     Graph                nodes, source, links, and the two ends near l and far l of link l
---     WellFormed G         the reader's promise: up to 256 nodes and 1,024 links, ends are two nodes
+--     WellFormed G         the reader's promise: up to 256 nodes and 1,024 links, the source is a
+--                          node, and the ends of a link are two nodes
 --     near_end, far_end    the two ends of link l in a list of ends, two numbers a link
 --     graph_of n s m ends  n nodes with source s and m links, whose ends are a list
 --     Joins G l v w        link l joins v and w
@@ -8,7 +9,7 @@
 --     across a b v         of two ends a and b the other one, seen from the end v, computed
 --     other G l v          the other end of link l, seen from its end v, computed
 --     link_code l          the loss code of link l; that of node k is k
---     no_loss              the lowest code that names nothing
+--     no_loss              the lowest code that names nothing in any table
 --     IsLoss p G c         c is the code of a loss under protection p (0 node, else link)
 -- Assumes nothing.
 use Rattle.std.specs.Prelude.{◌≡◌, ◌≢◌, Bool, ◌||◌, List, ℕ, ◌+◌, ◌*◌, ◌≤◌, ◌<◌, ◌==◌, slice_index, if◌then◌else◌}

@@ -9,8 +9,9 @@ use Rattle.std.proofs.Math.Decide.{dec_lt}
 use Rattle.std.proofs.lemmas.Bool.{and_parts}
 use Rattle.std.specs.Prelude.{Option, None}
 use Rattle.network.specs.Search.{lowest}
-use Rattle.network.proofs.Search.{lowest_at, lowest_none, lowest_nothing}
-use Rattle.nodeset.specs.Set.{has, size, Counted, Lowest, none, at}
+use Rattle.network.proofs.Search as search
+use Rattle.network.proofs.Search.{lowest_at, lowest_none, lowest_nothing, lowest_is}
+use Rattle.nodeset.specs.Set.{has, size, Counted, Lowest}
 use Rattle.nodeset.proofs.Size.{size_none, size_empty}
 
 module _ (ws : List ℕ) (n : ℕ) (P : ℕ → Bool) (few : n ≤ 256)
@@ -20,11 +21,14 @@ module _ (ws : List ℕ) (n : ℕ) (P : ℕ → Bool) (few : n ≤ 256)
   here k h = sym (is k ∙ rw (lt-ltb k n h))
 
   pub lowest_found : (r : Option ℕ) → Lowest ws r → r ≡ lowest n P
-  lowest_found r (none f) = sym (lowest_none n P (λ j h. here j h ∙ f j (omega arith)))
-  lowest_found r (at {r = k} h t f) =
-      let p = and_parts (ltb k n) (P k) (sym (is k) ∙ t) in
-      let m : k < n = ltb-true k n p.0 in
-      sym (lowest_at n P k m p.1 (λ j b. here j (omega arith) ∙ f j b))
+  lowest_found r e = e ∙ go (lowest_is 256 (has ws))
+    where
+      go : {o : Option ℕ} → search.Lowest (has ws) 256 o → o ≡ lowest n P
+      go (search.nowhere f) = sym (lowest_none n P (λ j h. here j h ∙ f j (omega arith)))
+      go (search.found k h t f) =
+          let p = and_parts (ltb k n) (P k) (sym (is k) ∙ t) in
+          let m : k < n = ltb-true k n p.0 in
+          sym (lowest_at n P k m p.1 (λ j b. here j (omega arith) ∙ f j b))
 
   size_nothing : size ws ≡ 0 → lowest n P ≡ None
   size_nothing z = lowest_none n P (λ j h. here j h ∙ size_empty ws z j (omega arith))

@@ -3,10 +3,9 @@
 --     set_only         so at most one NodeSet holds what a contract says, E k of each node k
 --     counted_only     at most one r is `Counted`; lowest_only: or `Lowest`
 -- Assumes nothing.
-use Rattle.std.proofs.Common.{Bool, true≢false, List, ◌≡◌, refl, sym, ap, ◌∙◌, ℕ, ◌+◌, ◌*◌, ◌<◌, arith, length, get_or, ext_get_or, w64, Fits}
-use Rattle.std.proofs.Math.Decide.{dec_lt}
-use Rattle.std.specs.Prelude.{Option, Some}
-use Rattle.nodeset.specs.Set.{has, Counted, Lowest, none, at}
+use Rattle.std.proofs.Common.{Bool, List, ◌≡◌, sym, ap, ◌∙◌, ℕ, ◌+◌, ◌*◌, length, get_or, ext_get_or, w64, Fits}
+use Rattle.std.specs.Prelude.{Option}
+use Rattle.nodeset.specs.Set.{has, Counted, Lowest}
 use Rattle.nodeset.specs.declared.NodeSet.{NodeSet}
 use Rattle.nodeset.proofs.Bit.{bits_only}
 use Rattle.nodeset.proofs.Words.{has_at}
@@ -31,13 +30,4 @@ pub counted_only : (ws : List ℕ) (r s : ℕ) → Counted ws r → Counted ws s
 counted_only ws r s c d = c.exact ∙ sym d.exact
 
 pub lowest_only : (ws : List ℕ) (r s : Option ℕ) → Lowest ws r → Lowest ws s → r ≡ s
-lowest_only ws r s (none _) (none _) = refl
-lowest_only ws r s (none f) (at {r = j} l t _) = absurd (true≢false (sym t ∙ f j l))
-lowest_only ws r s (at {r = i} l t _) (none f) = absurd (true≢false (sym t ∙ f i l))
-lowest_only ws r s (at {r = i} _ t f) (at {r = j} _ u g) =
-    ap Some (go (dec_lt i j) (dec_lt j i))
-  where
-    go : Dec (i < j) → Dec (j < i) → i ≡ j
-    go (yes h) q = absurd (true≢false (sym t ∙ g i h))
-    go (no p) (yes h) = absurd (true≢false (sym u ∙ f j h))
-    go (no p) (no q) = omega arith
+lowest_only ws r s c d = c ∙ sym d

@@ -3,7 +3,7 @@
 --     fine             success
 --     told o           the refusal that was found, or else success
 --     and_then a b     a refusal stays, else the next answer decides
---     answer_for e       document 01's number and values for each refusal of a table
+--     answer_for e     document 01's number and values for each refusal of a table
 --     answer_of r      the answer of a reading
 --     on_table r k     a refused table's answer, or what k answers for a table of that shape
 -- Assumes nothing.

@@ -8,8 +8,9 @@
 --     plan_good         that v's record has its kind, its zero and its number
 --     plan_agree        trees that agree below n have the same plan
 --     entry_put         putting a record leaves the other nodes' parent links
+--     entry_put_here    and its own parent links are what was put
 -- Assumes nothing.
-use Rattle.std.proofs.Common.{◌≡◌, refl, sym, subst, ◌∙◌, ◌≢◌, ◌⊎◌, ⊎_elim, inl, inr, List, ◌++◌, append_assoc, ℕ, zero, suc, ◌+◌, ◌*◌, ◌≤◌, ◌<◌, le_of_suc-le-suc, not-suc-le-zero, eq-or-lt_of_le, add-one, arith, ltb-true, ltb-false, eq-eqb, ltb, length, take, drop, get_or, length-append, length-drop, take_at, drop_at, drop-drop, get_or-append-add}
+use Rattle.std.proofs.Common.{◌≡◌, refl, sym, subst, ◌∙◌, ◌≢◌, ◌⊎◌, ⊎_elim, inl, inr, List, ◌++◌, append_assoc, ℕ, zero, suc, ◌+◌, ◌*◌, ◌≤◌, ◌<◌, le_of_suc-le-suc, not-suc-le-zero, eq-or-lt_of_le, add-one, arith, ltb-true, ltb-false, eq-eqb, ltb, length, take, drop, get_or, length-append, length-drop, length-take-le, take_at, drop_at, drop-drop, get_or-append-add}
 use Rattle.std.proofs.Math.ListN.{get_or-append}
 use Rattle.std.proofs.Math.Seq.{sets, sets-eq}
 use Rattle.std.specs.Prelude.{None}
@@ -61,14 +62,26 @@ module _ (kind : ℕ) (tree : Trees) where
       rw e (sets-eq (bytes v) (plan_bytes kind v tree ++ drop (8 * v) plan₀) (8 * v) fits
       ∙ rw (front, long, ← drop-drop, back, drop-drop, next, add-one, append_assoc) refl)
 
-  last_at : (rest : List ℕ) (n k : ℕ) → k < 8
-      → get_or (plan_bytes kind n tree ++ (bytes n ++ rest)) (8 * n + k) 0 ≡ get_or (bytes n) k 0
-  last_at rest n k l =
-      let size = length_plan kind n tree in
+  -- What stands in n's record, behind what stands before it.
+  mid_at : (front rest : List ℕ) (n k : ℕ) → length front ≡ 8 * n → k < 8
+      → get_or (front ++ (bytes n ++ rest)) (8 * n + k) 0 ≡ get_or (bytes n) k 0
+  mid_at front rest n k size l =
       let long : length (bytes n) ≡ 8 = length_record _ _ _ _ in
       let inside : k < length (bytes n) = omega arith in
-      rw (← size) (get_or-append-add (plan_bytes kind n tree) (bytes n ++ rest) k 0)
+      rw (← size) (get_or-append-add front (bytes n ++ rest) k 0)
       ∙ get_or-append (bytes n) rest 0 k inside
+
+  last_at : (rest : List ℕ) (n k : ℕ) → k < 8
+      → get_or (plan_bytes kind n tree ++ (bytes n ++ rest)) (8 * n + k) 0 ≡ get_or (bytes n) k 0
+  last_at rest n k l = mid_at (plan_bytes kind n tree) rest n k (length_plan kind n tree) l
+
+  put_at : (s : List ℕ) (v k : ℕ) → 8 * v + 8 ≤ length s → k < 8
+      → get_or (sets s (8 * v) (bytes v)) (8 * v + k) 0 ≡ get_or (bytes v) k 0
+  put_at s v k room l =
+      let long : length (bytes v) ≡ 8 = length_record _ _ _ _ in
+      rw (sets-eq (bytes v) s (8 * v) (omega arith), append_assoc)
+      (mid_at (take (8 * v) s) (drop (8 * v + length (bytes v)) s) v k
+      (length-take-le (8 * v) s (omega arith)) l)
 
   pub plan_at : (rest : List ℕ) (n v k : ℕ) → v < n → k < 8
       → get_or (plan_bytes kind n tree ++ rest) (8 * v + k) 0 ≡ get_or (bytes v) k 0
@@ -116,6 +129,21 @@ module _ (kind : ℕ) (tree : Trees) where
         let zero_is = plan_at rest n v 1 l (omega arith) in
         let number_is = two_of_plan rest n v 2 l (omega arith) ∙ numbered v in
         simp (eq-eqb _ kind kind_is, eq-eqb _ 0 zero_is, eq-eqb _ v number_is)
+
+-- Of the node itself the record that was put is read.
+pub entry_put_here : (kind v : ℕ) (tree : Trees) (s : List ℕ) (colour : Colour)
+    → size_of kind * v + size_of kind ≤ length s
+    → entry_of kind (sets s (size_of kind * v) (record_of kind v (tree Blue v) (tree Red v))) v colour
+    ≡ tree colour v
+unfolding entry_of
+entry_put_here kind v tree s colour room =
+    let k = offset_of colour in
+    let b = small colour in
+    let next : 8 * v + k + 1 ≡ 8 * v + (k + 1) = omega arith in
+    two_at _ (record_of kind v (tree Blue v) (tree Red v)) (8 * v + k) k
+    (put_at kind tree s v k room (omega arith))
+    (rw next (put_at kind tree s v (k + 1) room (omega arith)))
+    ∙ own kind tree v colour
 
 pub plan_agree : (kind n : ℕ) (t u : Trees)
     → ((colour : Colour) (v : ℕ) → v < n → t colour v ≡ u colour v)
