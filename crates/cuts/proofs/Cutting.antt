@@ -3,7 +3,7 @@
 --     missed_is                    the lowest node that is not reached is the lowest that c cuts
 --                                  off
 --     may_cut                      the losses that are tried
---     cut_at, cut_none             the lowest loss that cuts a node off, and that none does
+--     found, cut_first             the first of the cuts that are found is that of the lowest loss
 --     NodeCut x, LinkCut y         x and y are what 11 and 12 would name
 --     refused10, refused11, refused12, unrefused
 --                                  the refusal, by what a program has found
@@ -11,15 +11,15 @@
 --                                  11 is not given
 --     answer_is                    the answer of an outcome is that of the refusal
 -- Assumes nothing.
-use Rattle.std.proofs.Common.{Bool, true, false, not, ◌&&◌, ◌≡◌, refl, ap, ◌∙◌, List, ℕ, ◌+◌, ◌<◌, ◌≤◌, arith, eqb, ltb, eq-eqb, ne_eqb}
+use Rattle.std.proofs.Common.{Bool, true, false, not, ◌&&◌, ◌≡◌, refl, ap, ◌∙◌, List, ℕ, zero, suc, ◌+◌, ◌≤◌, arith, eqb, ltb, eq-eqb, ne_eqb}
 use Rattle.std.proofs.Math.Path.{fun_ext}
 use Rattle.std.proofs.lemmas.Bool.{cases_Bool}
 use Rattle.std.proofs.lemmas.Bool.Decides.{nat_tests}
-use Rattle.std.specs.Prelude.{Option, Some, None, is_some, Result, Ok, Err, MatchResult}
-use Rattle.network.specs.Search.{when, on_found}
+use Rattle.std.specs.Prelude.{Option, Some, None, Result, Ok, Err, MatchResult, option_map}
+use Rattle.std.specs.Option.{option_or}
+use Rattle.network.specs.Search.{when, on_found, first}
 use Rattle.network.specs.Graph.{Graph, WellFormed, link_code, no_loss}
 use Rattle.network.specs.Way.{has_way}
-use Rattle.network.proofs.Search.{first_only, first_nothing}
 use Rattle.choices.specs.Refuse.{Refusal, refusing, missed, cutter, refusal}
 use Rattle.choices.specs.Refuse.{refuse10, refuse11, refuse12}
 use Rattle.nodeset.specs.Set.{has, Lowest}
@@ -65,19 +65,26 @@ module _ (G : Graph) (base k number : ℕ) where
   unfolding missed_by
   tried_as i e = when_found (may_cut G base i) (missed G (base + i)) (refusing number i) ∙ rw e
 
-  pub cut_at : (i v : ℕ) → i < k → missed_by G (base + i) ≡ Some v
-      → ((j : ℕ) → j < i → missed_by G (base + j) ≡ None)
-      → cutter G number k (may_cut G base) (λ j. base + j)
-      ≡ cut_by number (Some (record { place = i; node = v }))
-  unfolding cutter
-  cut_at i v lt e before =
-      let q = tried_as i e in
-      first_only k tried i lt (ap is_some q) (λ j l. ap is_some (tried_as j (before j l))) ∙ q
+  -- What is found at place i: the cut of the loss there.
+  abbrev pub found : ℕ → Option Cut
+  found i = option_map (λ v. record { place = i; node = v }) (missed_by G (base + i))
 
-  pub cut_none : ((j : ℕ) → j < k → missed_by G (base + j) ≡ None)
-      → cutter G number k (may_cut G base) (λ j. base + j) ≡ cut_by number None
+  joined : (i : ℕ) (a : Option Cut) (o : Option ℕ)
+      → option_or (cut_by number a) (on_found o (refusing number i) None)
+      ≡ cut_by number (option_or a (option_map (λ v. record { place = i; node = v }) o))
+  joined i (Some x) o = refl
+  joined i None (Some v) = refl
+  joined i None None = refl
+
+  first_cut : (n : ℕ) → first n tried ≡ cut_by number (first n found)
+  unfolding first
+  first_cut zero = refl
+  first_cut (suc n) =
+      rw (first_cut n, tried_as n refl) (joined n (first n found) (missed_by G (base + n)))
+
+  pub cut_first : cutter G number k (may_cut G base) (λ j. base + j) ≡ cut_by number (first k found)
   unfolding cutter
-  cut_none before = first_nothing k tried (λ j l. ap is_some (tried_as j (before j l)))
+  cut_first = first_cut k
 
 -- The three refusals, as a program finds them: v by the loss of nothing, x by that of a node, and
 -- y by that of a link.

@@ -154,16 +154,11 @@ fn first_cut(network: Network, base: usize, k: usize) -> Option<Cut>
     ensures { (number : ℕ) → cutter (graph network.entry) number k
         (λ i. not (base + i == network.entry.shape.source)) (λ i. base + i) ≡ cut_by number result }
 {
-    for place in 0..k {
-        let without = Without {
-            network,
-            loss: base + place,
-        };
-        if let Some(node) = without.missed_by() {
-            return Some(Cut { place, node });
-        }
-    }
-    None
+    search::first(k, |place| {
+        let loss = base + place;
+        let node = Without { network, loss }.missed_by()?;
+        Some(Cut { place, node })
+    })
 }
 
 /// 10; then 11, under node protection alone; then 12. (The protection p is a number, as everywhere in

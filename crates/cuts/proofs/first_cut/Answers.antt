@@ -1,15 +1,14 @@
--- The loss at this place cuts a node off, and none before it does; or none does.
-use Rattle.std.proofs.Common.{sym, arith}
+-- The first cut that is found is that of the lowest loss.
+use Rattle.std.proofs.Common.{sym, ap, ◌∙◌, rules, of_calls}
 use Rattle.reader.specs.Network.{graph}
-use Rattle.cuts.proofs.Cutting.{cut_at, cut_none}
+use Rattle.cuts.specs.Cut.{cut_by}
+use Rattle.cuts.proofs.Cutting.{found, cut_first}
 use Rattle.cuts.proofs.first_cut.Goals as goal
-
-pub returns-in-Some : goal.returns-in-Some
-returns-in-Some c = λ number.
-    cut_at (graph c.args.network) c.args.base c.args.k number c.loop-place.place c.in-Some.node
-    c.loop-place-test.true (sym c.in-Some.ensures) c.loop-place.invariant
 
 pub returns : goal.returns
 returns c = λ number.
-    cut_none (graph c.args.network) c.args.base c.args.k number
-    (λ j l. c.loop-place.invariant j (omega arith))
+    let G = graph c.args.network in
+    let base = c.args.base in
+    cut_first G base c.args.k number
+    ∙ ap (cut_by number)
+    (sym (c.first.ensures (found G base c.args.k number) (λ i r l p. search (rules, of_calls))))

@@ -1,0 +1,1 @@
+-- The crate has no laws of its own: those of `first` stand in network.

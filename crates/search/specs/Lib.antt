@@ -1,0 +1,1 @@
+-- The crate has no definitions of its own: `first` is of network.
