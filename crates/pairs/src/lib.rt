@@ -32,6 +32,7 @@ impl From<Flaw> for Answer {
         match flaw {
             Flaw::Length { length } => Answer::new(13, length, 0),
             Flaw::Record { record, offset } => Answer::new(14, record, offset),
+            // (A colour's number is its place in the enum.)
             Flaw::Parent { node, colour } => Answer::new(15, node, colour as usize),
         }
     }
