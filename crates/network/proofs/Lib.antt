@@ -2,6 +2,7 @@
 pub mod Tests
 pub mod Search
 pub mod Set
+pub mod Count
 pub mod Graph
 pub mod Way
 pub mod Chain

@@ -4,7 +4,7 @@
 --     fitting                so a plan without flaw says what `Fitting` says
 --     LeastParent, flaw_least  15 names a misused parent, and no lower node has one
 --     written_fits           a plan that is written for trees that fit has no flaw
-use Rattle.std.proofs.Common.{true, false, ◌≡◌, ◌≢◌, refl, ap, ◌∙◌, List, [], ℕ, ◌*◌, ◌<◌, arith, length, Option, Some, None, eq-eqb}
+use Rattle.std.proofs.Common.{true, false, ◌≡◌, ◌≢◌, refl, ap, ◌∙◌, List, [], ℕ, ◌*◌, ◌<◌, arith, length, Option, Some, None, is_some, eq-eqb}
 use Rattle.std.proofs.lemmas.Bool.Decides.{nat_tests}
 use Rattle.std.proofs.lemmas.List.{append-nil}
 use Rattle.std.specs.Prelude.{option_map}
@@ -14,17 +14,13 @@ use Rattle.network.specs.declared.Colour.TheVariants.{Blue, Red}
 use Rattle.network.specs.Search.{first}
 use Rattle.network.specs.Graph.{Graph, WellFormed, Joins, touches, other}
 use Rattle.network.specs.Chain.{Trees}
-use Rattle.network.proofs.Search.{First, first_is, Leads, first_got}
+use Rattle.network.proofs.Search.{First, first_is, Leads, first_got, first_nothing}
 use Rattle.network.proofs.Graph.{joins_other, joins_touches, joins_listed}
 use Rattle.records.specs.Plan.{plan_bytes}
 use Rattle.records.proofs.Plan.{length_plan, plan_read, plan_good}
 use Rattle.pairs.specs.declared.Flaw.{Flaw}
 use Rattle.pairs.specs.declared.Flaw.TheVariants.{Record, Parent}
 use Rattle.pairs.specs.Flaw.{kind, none, tree_of, record_flaw, misused, parent_flaw, flaw_of, Fitting}
-
-first_none : {A : Type 0} (k : ℕ) (f : ℕ → Option A) → ((j : ℕ) → j < k → f j ≡ None)
-    → first k f ≡ None
-first_none k f b = let w = first_is k f in grind arith
 
 none_below : {A : Type 0} (k : ℕ) (f : ℕ → Option A) → first k f ≡ None → (j : ℕ) → j < k
     → f j ≡ None
@@ -152,6 +148,6 @@ module _ (G : Graph) (t : Trees) where
   written_fits f =
       rw (
         eq-eqb _ _ (length_plan kind G.nodes t),
-        first_none G.nodes (record_flaw written) record_good,
-        first_none G.nodes (parent_flaw G (tree_of written)) (parents_good f),
+        first_nothing G.nodes (record_flaw written) (λ v l. ap is_some (record_good v l)),
+        first_nothing G.nodes (parent_flaw G (tree_of written)) (λ v l. ap is_some (parents_good f v l)),
       )
