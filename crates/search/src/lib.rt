@@ -1,7 +1,7 @@
 #![tactic(auto)]
 
-// Finite search: the code of network's `first`. Every loop that looks for the first of something is
-// this one.
+// Finite search: the code of network's `first`. Every loop that looks for the first of something, but
+// for nodeset's over the words of a set, is this one.
 ghost use Rattle.std.specs.Prelude.{◌≡◌, ℕ, ◌<◌, Option};
 ghost use Rattle.network.specs.Search.{first};
 
