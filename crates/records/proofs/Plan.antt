@@ -1,6 +1,7 @@
 -- Laws of plans.
 --     length_record     a record has 8 bytes
 --     length_plan       a plan of n nodes has n records
+--     store_more        one store more of a run
 --     record_put        a copy into the middle of a list is a run of stores
 --     plan_more         one record more
 --     plan_at           what stands at offset k of v's record
@@ -10,7 +11,7 @@
 --     entry_put         putting a record leaves the other nodes' parent links
 --     entry_put_here    and its own parent links are what was put
 -- Assumes nothing.
-use Rattle.std.proofs.Common.{◌≡◌, refl, sym, subst, ◌∙◌, ◌≢◌, ◌⊎◌, ⊎_elim, inl, inr, List, ◌++◌, append_assoc, ℕ, zero, suc, ◌+◌, ◌*◌, ◌≤◌, ◌<◌, le_of_suc-le-suc, not-suc-le-zero, eq-or-lt_of_le, add-one, arith, ltb-true, ltb-false, eq-eqb, ltb, length, take, drop, get_or, length-append, length-drop, length-take-le, take_at, drop_at, drop-drop, get_or-append-add}
+use Rattle.std.proofs.Common.{◌≡◌, refl, sym, subst, ◌∙◌, ◌≢◌, ◌⊎◌, ⊎_elim, inl, inr, List, [], ◌∷◌, ◌++◌, append_assoc, add-zero, ℕ, zero, suc, ◌+◌, ◌*◌, ◌≤◌, ◌<◌, le_of_suc-le-suc, not-suc-le-zero, eq-or-lt_of_le, add-one, arith, ltb-true, ltb-false, eq-eqb, ltb, length, take, drop, set, get_or, length-append, length-drop, length-take-le, take_at, drop_at, drop-drop, get_or-append-add}
 use Rattle.std.proofs.Math.ListN.{get_or-append}
 use Rattle.std.proofs.Math.Seq.{sets, sets-eq}
 use Rattle.std.specs.Prelude.{None}
@@ -35,6 +36,16 @@ length_plan kind (suc n) tree =
 small : (colour : Colour) → offset_of colour < 7
 small Blue = omega arith
 small Red = omega arith
+
+-- A run of stores, one after the other.
+pub store_more : (s bytes : List ℕ) (at k : ℕ) → k < length bytes
+    → set (sets s at (take k bytes)) (at + k) (get_or bytes k 0) ≡ sets s at (take (k + 1) bytes)
+store_more s [] at k h = absurd (not-suc-le-zero h)
+store_more s (b ∷ bytes) at zero h = rw add-zero refl
+store_more s (b ∷ bytes) at (suc k) h =
+    let e : at + suc k ≡ suc at + k = omega arith in
+    let f : suc k + 1 ≡ suc (k + 1) = omega arith in
+    rw (e, f) (store_more (set s at b) bytes (suc at) k (le_of_suc-le-suc h))
 
 -- A run of stores, as a copy into the middle of a list leaves it.
 pub record_put : (s bytes : List ℕ) (at k : ℕ) → length bytes ≡ k → at + k ≤ length s
